@@ -4,5 +4,6 @@ pub mod Holders
 pub mod Lookups
 pub mod Numbers
 pub mod Owners
+pub mod Parents
 pub mod Placing
 pub mod Sighted

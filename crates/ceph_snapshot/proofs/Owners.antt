@@ -38,6 +38,11 @@ pub account_placed : (nodes placed : List Node) → LieAsClaimed nodes placed �
 account_placed nodes placed are i =
     still (λ (n : Node). account_of n.directory) (λ k. placed_node (rank_above nodes placed k) (is_torn_above nodes placed k)) (λ k n. refl) nodes placed are.size are.at i
 
+pub parent_placed : (nodes placed : List Node) → LieAsClaimed nodes placed → (i : ℕ)
+    → option_map (λ (n : Node). n.directory.parent) (slice_get placed i) ≡ option_map (λ (n : Node). n.directory.parent) (slice_get nodes i)
+parent_placed nodes placed are i =
+    still (λ (n : Node). n.directory.parent) (λ k. placed_node (rank_above nodes placed k) (is_torn_above nodes placed k)) (λ k n. refl) nodes placed are.size are.at i
+
 -- what is made of each node
 pub owner_from_map : (ds : List Directory) (ns : List Node) (f : PathPin → WhosePin) → map whose_pin ds ≡ map (λ (n : Node). f (path_pin n)) ns → (i : ℕ)
     → whose_pin_at ds i ≡ option_map f (path_pin_at ns i)

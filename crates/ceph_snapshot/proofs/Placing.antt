@@ -48,14 +48,6 @@ torn_same start cur at i new apart =
     (λ (some : i ≢ 0). rw (ne_eqb i 0 some) (ap (λ (o : Option Node). option_map_or (λ (n : Node). n.directory.is_spread) o false) (at-other cur at (above_at start i) new (apart some))))
     (cases_eq i 0)
 
-pub above_more : (start : List Node) (at parent : ℕ) → parent ≡ above_at start at → (0 < at → parent < at) → ((i : ℕ) → 0 < i → i < at → above_at start i < i)
-    → (i : ℕ) → 0 < i → i < at + 1 → above_at start i < i
-above_more start at parent is low before i some l =
-    ⊎_elim
-    (λ (same : i ≡ at). subst (λ (k : ℕ). above_at start k < k) (sym same) (let below : parent < at = low (omega (arith, same, some)) in subst (λ (k : ℕ). k < at) is below))
-    (λ (other : i ≢ at). before i some (omega (arith, other, l)))
-    (cases_eq i at)
-
 pub placed_more : (start cur : List Node) (at parent : ℕ) (d new : Node) (now : ℕ) (torn : Bool) → length cur ≡ length start → at < length start
     → ((i : ℕ) → 0 < i → i < at → above_at start i < i)
     → ((i : ℕ) → i < at → slice_get cur i ≡ option_map (placed_node (rank_above start cur i) (is_torn_above start cur i)) (slice_get start i))

@@ -47,7 +47,7 @@ account_past nodes s past i =
 
 -- by what is told of a directory and where it is
 with_of : Bool → Sighting → Account → Position → Account
-with_of here s t p = (t.0, (seen_heat t.1.0 s.heat (here && (p.0 || (p.1 == s.rank))), (seen_heat t.1.1.0 s.writes (here && (p.0 || (p.1 == s.rank))), cond here (option_or s.inode t.1.1.1) t.1.1.1)))
+with_of here s t p = (t.0, (seen_heat t.1.0 s.heat (here && (p.0 || (p.1.0 == s.rank))), (seen_heat t.1.1.0 s.writes (here && (p.0 || (p.1.0 == s.rank))), cond here (option_or s.inode t.1.1.1) t.1.1.1)))
 
 seen_by_place : (spread : Bool) (now rank : ℕ) → (spread || (now == rank)) ≡ (spread || (cond spread 0 now == rank))
 seen_by_place true now rank = refl
@@ -148,7 +148,7 @@ sum_path nodes i n d part of (s ∷ ss) parts apart there paths places inside =
       g one = cond (counts d one) (of one) 0
 
       seen : is_seen_by n s.rank ≡ is_seen_by d s.rank
-      seen = seen_by_place n.is_spread n.now s.rank ∙ (ap (λ (p : Position). p.0 || (p.1 == s.rank)) (sym places) ∙ sym (seen_by_place d.is_spread d.now s.rank))
+      seen = seen_by_place n.is_spread n.now s.rank ∙ (ap (λ (p : Position). p.0 || (p.1.0 == s.rank)) (sym places) ∙ sym (seen_by_place d.is_spread d.now s.rank))
 
       path : (s.directory == i) ≡ bytes_eq (node_path_at nodes s.directory) d.path.items
       path = same_path nodes i s.directory (account_of n) apart there (inside 0 s (omega arith)) ∙ ap (bytes_eq (node_path_at nodes s.directory)) paths

@@ -6,3 +6,4 @@ pub mod Policies
 pub mod Rows
 pub mod Shown
 pub mod Sightings
+pub mod Snapshots

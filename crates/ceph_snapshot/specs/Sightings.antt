@@ -1,5 +1,5 @@
 -- The heat and the inode number of a directory, by what ranks have seen at its path.
-use Rattle.std.specs.Prelude.{◌≡◌, ◌==◌, ◌&&◌, ◌||◌, ◌/◌, ◌<◌, ℕ, All, Bool, List, length, map, filter, min, sum_by}
+use Rattle.std.specs.Prelude.{◌≡◌, ◌==◌, ◌&&◌, ◌||◌, ◌/◌, ◌<◌, [], ℕ, All, Bool, List, length, map, filter, min, sum_by}
 use Rattle.std.specs.Prelude.{Option, Some, None, slice_get, if◌then◌else◌}
 use Rattle.std.specs.List.{fold}
 use Rattle.std.specs.Option.{option_map, option_or}
@@ -10,10 +10,10 @@ use Rattle.ceph_snapshot.specs.declared.directory.Directory.{Directory}
 use Rattle.ceph_snapshot.specs.declared.tree.Node.{Node}
 use Rattle.ceph_snapshot.specs.declared.tree.Sighting.{Sighting}
 use Rattle.ceph_snapshot.specs.declared.names.Names.{Names}
-use Rattle.ceph_snapshot.specs.Authority.{is_user_path, node_path_at}
+use Rattle.ceph_snapshot.specs.Authority.{above_at, is_user_path, node_path_at}
 use Rattle.ceph_snapshot.specs.Gathered.{seen_heat}
 use Rattle.ceph_snapshot.specs.Holding.{most_heat}
-use Rattle.ceph_snapshot.specs.Names.{path_number}
+use Rattle.ceph_snapshot.specs.Names.{IsPathBelow, path_number}
 
 -- heat that a rank has seen at a path, and the inode number that it names
 pub record PathHeat : Type 0 where
@@ -61,12 +61,27 @@ account_of d = (d.path.items, (d.heat, (d.writes, d.inode)))
 abbrev pub account_at : List Node → ℕ → Option Account
 account_at nodes i = option_map (λ (n : Node). account_of n.directory) (slice_get nodes i)
 
--- each path has the number of its directory, whose heat is not yet counted
+-- the directory with this number is the one that a path lies in
+pub record IsParentOf (nodes : List Node) (path : List ℕ) (parent : ℕ) : Type 0 where
+  pub inside : parent < length nodes
+  pub below : IsPathBelow (node_path_at nodes parent) path
+
+-- the root names itself, and each other directory the one that it lies in, which has a smaller number
+pub record AreBelowParents (nodes : List Node) : Type 0 where
+  pub some : 0 < length nodes
+  pub path : node_path_at nodes 0 ≡ []
+  pub root : above_at nodes 0 ≡ 0
+  pub first : (i : ℕ) → 0 < i → i < length nodes → above_at nodes i < i
+  pub below : (i : ℕ) → 0 < i → i < length nodes
+      → IsPathBelow (node_path_at nodes (above_at nodes i)) (node_path_at nodes i)
+
+-- each path has the number of its directory, whose heat is not yet counted, and which lies below its parent
 pub record IsNumbered (names : Names) (nodes : List Node) (sightings : List Sighting) : Type 0 where
   pub named : (path : List ℕ) (i : ℕ) → path_number names path ≡ Some i
       → account_at nodes i ≡ Some (path, (0, (0, None)))
   pub numbered : (i : ℕ) (t : Account) → account_at nodes i ≡ Some t → path_number names t.0 ≡ Some i
   pub inside : All (λ (s : Sighting). s.directory < length nodes) sightings
+  pub below : AreBelowParents nodes
 
 -- no two directories have one path
 abbrev pub HaveOwnPaths : List Node → Type 0
@@ -82,12 +97,12 @@ pub record IsNumberOf (nodes : List Node) (path : List ℕ) (i : ℕ) : Type 0 w
   pub inside : i < length nodes
   pub there : node_path_at nodes i ≡ path
 
--- whether a directory is spread, and its rank if it isn't
+-- whether a directory is spread, its rank if it isn't, and its parent
 abbrev pub Position : Type 0
-Position = Bool × ℕ
+Position = Bool × (ℕ × ℕ)
 
 abbrev pub position_of : Directory → Position
-position_of d = (d.is_spread, if d.is_spread then 0 else d.now)
+position_of d = (d.is_spread, (if d.is_spread then 0 else d.now, d.parent))
 
 abbrev pub position_at : List Node → ℕ → Option Position
 position_at nodes i = option_map (λ (n : Node). position_of n.directory) (slice_get nodes i)

@@ -1,7 +1,7 @@
 //! The directories, from what was gathered of them.
 
 ghost use Rattle.std.specs.Prelude.{◌≡◌, ◌==◌, ◌<◌, ℕ, All, List, true, false};
-ghost use Rattle.std.specs.Prelude.{IfErr, IfOk, IsErrOf, OnOk, length, map, nat_lt, slice_get, string_bytes};
+ghost use Rattle.std.specs.Prelude.{IfOk, IsErrOf, OnOk, length, map, nat_lt, slice_get, string_bytes};
 ghost use Rattle.std.specs.Prelude.{if◌then◌else◌};
 ghost use Rattle.std.specs.HashMap.{get_by};
 ghost use Rattle.std.specs.Option.{option_map};
@@ -12,11 +12,10 @@ ghost use Rattle.ceph_snapshot.specs.Authority.{IsUnclaimed, LieAsClaimed, PathT
 ghost use Rattle.ceph_snapshot.specs.Authority.{node_path_at, placed_node, lies_at};
 ghost use Rattle.ceph_snapshot.specs.Gathered.{foreign_pin, idle_pin, listed_rank, our_pin, path_pin};
 ghost use Rattle.ceph_snapshot.specs.Gathered.{path_pin_at, whose_pin, whose_pin_at, with_owner};
-ghost use Rattle.ceph_snapshot.specs.Holding.{AreParentsFirst};
-ghost use Rattle.ceph_snapshot.specs.Policies.{KeepUnpinnable};
 ghost use Rattle.ceph_snapshot.specs.Shown.{shown_path};
-ghost use Rattle.ceph_snapshot.specs.Sightings.{AreCold, HasSeen, LieAt, account_at, account_by, account_of};
-ghost use Rattle.ceph_snapshot.specs.Sightings.{account_with, mean_account, position_at, position_of};
+ghost use Rattle.ceph_snapshot.specs.Snapshots.{IsSnapshot};
+ghost use Rattle.ceph_snapshot.specs.Sightings.{AreBelowParents, AreCold, HasSeen, LieAt, account_at, account_by};
+ghost use Rattle.ceph_snapshot.specs.Sightings.{account_of, account_with, mean_account, position_at, position_of};
 
 use crate::directory::Directory;
 use crate::gathering::{Gathering, Hearsay};
@@ -64,20 +63,16 @@ fn above(nodes: &[Node], at: usize, parent: usize) -> (Rank, bool)
     (directory.now, directory.is_spread)
 }
 
-/// Where each directory is: at the rank of the nearest root of a subtree. One that comes before its parent is refused.
-fn place_all(nodes: &mut Vec<Node>) -> Result<(), SnapshotError>
-    ensures placed { OnOk result (LieAsClaimed nodes.old.items nodes.new.items) }
-    ensures refused { IfErr result (λ error. error ≡ SnapshotError.TooMany) }
+/// Where each directory is: at the rank of the nearest root of a subtree.
+fn place_all(nodes: &mut Vec<Node>)
+    requires { AreBelowParents nodes.old.items }
+    ensures { LieAsClaimed nodes.old.items nodes.new.items }
 {
     for at in 0..nodes.len() {
         let parent = nodes[at].directory.parent as usize;
-        if parent >= at.max(1) {
-            return Err(SnapshotError::TooMany);
-        }
         let (now, is_spread) = above(nodes, at, parent);
         place(&mut nodes[at], now, is_spread);
     }
-    Ok(())
 }
 
 /// Adds what a rank has seen at a directory, if it has authority or that is spread. Gives the heat that is spread.
@@ -159,6 +154,7 @@ fn finished(node: Node, own: Option<u64>, samples: u64, ranks: RankSet) -> Direc
     ensures now { result.now ≡ node.directory.now }
     ensures spread { result.is_spread ≡ node.directory.is_spread }
     ensures path { result.path ≡ node.directory.path }
+    ensures parent { result.parent ≡ node.directory.parent }
     ensures pin { result.pin ≡ foreign_pin node.pinned own ranks }
     ensures idle { result.idle ≡ idle_pin node.pinned own ranks }
     ensures earlier { result.earlier ≡ our_pin node.pinned own }
@@ -283,15 +279,13 @@ impl Gathering {
         ensures authority { IfOk result (λ snapshot. (placed : List Node) × LieAsClaimed self.tree.nodes placed
             × All (λ said. is_true_of placed said ≡ true) self.hearsay.items
             × LieAt placed snapshot.directories.items) }
+        ensures snapshot { IfOk result IsSnapshot }
         ensures seen { IfOk result (λ snapshot. All (HasSeen self.tree.seen samples) snapshot.directories.items) }
         ensures unclaimed { (path : PathText) (by said : ℕ) → IsErrOf result (SnapshotError.Unclaimed path by said)
             → (placed : List Node) × LieAsClaimed self.tree.nodes placed
             × IsUnclaimed placed self.hearsay.items path by said }
         ensures owner { IfOk result (λ snapshot. (i : ℕ) → whose_pin_at snapshot.directories.items i
             ≡ option_map (with_owner own.now ranks) (path_pin_at self.tree.nodes i)) }
-        ensures spread { IfOk result (λ snapshot. length snapshot.spread.items ≡ 64) }
-        ensures kept { IfOk result (λ snapshot. AreParentsFirst snapshot.directories.items
-            → KeepUnpinnable snapshot.directories.items) }
     {
         let Gathering {
             alloc,
@@ -302,7 +296,7 @@ impl Gathering {
             is_listed,
         } = self;
         let (mut nodes, sightings) = tree.into_parts();
-        place_all(&mut nodes)?;
+        place_all(&mut nodes);
         confirm(alloc, nodes.as_slice(), hearsay.as_slice())?;
         hold_tops(&mut nodes, tops.as_slice(), is_listed);
         let spread = see_all(alloc, &mut nodes, sightings.as_slice(), samples)?;

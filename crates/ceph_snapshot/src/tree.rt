@@ -1,9 +1,10 @@
 //! The directories that dumps name, and the heat that ranks have seen at them.
 ghost use Rattle.std.specs.Prelude.{◌≡◌, ◌++◌, ◌∷◌, [], ℕ, Some, None, is_some, max, IfOk, IfSome, IsErrOf, OnOk};
-ghost use Rattle.std.specs.Prelude.{◌<◌, true, false, All, length, map, if◌then◌else◌};
+ghost use Rattle.std.specs.Prelude.{◌<◌, true, false, All, length, map, slice_index_or, take, if◌then◌else◌};
 ghost use Rattle.ceph_dumps.specs.declared.listing.ListedValue.TheVariants as listed;
 ghost use Rattle.ceph_snapshot.specs.Authority.{PathText, is_user_path};
-ghost use Rattle.ceph_snapshot.specs.Sightings.{AreCold, HaveOwnPaths, IsNumberOf, of_fragment, account_of, with_path};
+ghost use Rattle.ceph_snapshot.specs.Sightings.{AreBelowParents, AreCold, HaveOwnPaths, IsNumberOf, IsParentOf};
+ghost use Rattle.ceph_snapshot.specs.Sightings.{of_fragment, account_of, with_path};
 
 use crate::directory::Directory;
 use crate::names::Names;
@@ -69,13 +70,14 @@ impl Tree {
         })
     }
 
-    /// The number of a path. One that has none gets one of its own, below a directory with this number.
+    /// The number of a path. One that has none gets one of its own, below the directory that it lies in.
     fn number_below(
         &mut self,
         alloc: Global,
         path: &[u8],
         parent: u32,
     ) -> Result<u32, SnapshotError>
+        requires { IsParentOf self.old.nodes path.now parent }
         ensures seen { self.new.seen ≡ self.old.seen }
         ensures path { IfOk result (IsNumberOf self.new.nodes path.now) }
         ensures twice { (path : PathText) (one two : ℕ) → IsErrOf result (SnapshotError.TwoClaims path one two) → ⊥ }
@@ -93,16 +95,19 @@ impl Tree {
         Ok(number)
     }
 
-    /// The nearest directory above a path that has a number: how many bytes its path has, and the number.
-    fn nearest(&self, path: &[u8]) -> (usize, u32) {
+    /// The nearest directory above a path that has a number: how many bytes its path and a slash have, and the number.
+    fn nearest(&self, path: &[u8]) -> (usize, u32)
+        requires { slice_index_or path.now 0 0 ≡ 47 }
+        ensures { IsParentOf self.now.nodes (take result.0 path.now) result.1 }
+    {
         for end in (1..path.len()).rev() {
             if path[end] == b'/' {
                 if let Some(number) = self.names.number(&path[..end]) {
-                    return (end, number);
+                    return (end + 1, number);
                 }
             }
         }
-        (0, 0)
+        (1, 0)
     }
 
     /// The number of a path, and none for one that is in no tree of users, as a rank's own directory.
@@ -122,9 +127,9 @@ impl Tree {
         if let Some(number) = self.names.number(path) {
             return Ok(Some(number));
         }
-        let (above, mut number) = self.nearest(path);
-        for end in above..path.len() {
-            if end > above && path[end] == b'/' {
+        let (from, mut number) = self.nearest(path);
+        for end in from..path.len() {
+            if path[end] == b'/' {
                 number = self.number_below(alloc, &path[..end], number)?;
             }
         }
@@ -176,6 +181,7 @@ impl Tree {
         ensures nodes { result.0.items ≡ self.nodes }
         ensures seen { map (with_path self.nodes) result.1.items ≡ self.seen }
         ensures inside { All (λ s. s.directory < length self.nodes) result.1.items }
+        ensures below { AreBelowParents self.nodes }
         ensures cold { AreCold self.nodes }
         ensures apart { HaveOwnPaths self.nodes }
     {
@@ -192,7 +198,8 @@ fn is_user_path(path: &[u8]) -> bool
 
 /// A directory of which nothing is known but its path and its parent.
 fn unknown(path: Vec<u8>, parent: u32) -> Node
-    ensures { account_of result.directory ≡ (path.items, (0, (0, None))) }
+    ensures account { account_of result.directory ≡ (path.items, (0, (0, None))) }
+    ensures parent { result.directory.parent ≡ parent }
 {
     Node {
         directory: Directory {
@@ -219,6 +226,7 @@ fn unknown(path: Vec<u8>, parent: u32) -> Node
 /// Adds what a rank says of a root of a subtree.
 fn add_root(node: &mut Node, rank: Rank, root: &SubtreeRoot)
     ensures account { account_of node.new.directory ≡ account_of node.old.directory }
+    ensures parent { node.new.directory.parent ≡ node.old.directory.parent }
     ensures here { root.now.is_here ≡ true → node.new.root ≡ Some rank }
     ensures elsewhere { root.now.is_here ≡ false → node.new.root ≡ node.old.root }
 {
@@ -235,6 +243,7 @@ fn add_root(node: &mut Node, rank: Rank, root: &SubtreeRoot)
 /// Adds a value that was listed of a directory.
 fn add_value(node: &mut Node, value: ListedValue)
     ensures account { account_of node.new.directory ≡ account_of node.old.directory }
+    ensures parent { node.new.directory.parent ≡ node.old.directory.parent }
     ensures entries { (count : ℕ) → value ≡ listed.Entries count → node.new.directory.inodes ≡ max count 1 }
     ensures pin { (rank : ℕ) → value ≡ listed.Pin (Some rank) → node.new.pinned ≡ Some rank }
     ensures no_pin { value ≡ listed.Pin None → node.new.pinned ≡ node.old.pinned }

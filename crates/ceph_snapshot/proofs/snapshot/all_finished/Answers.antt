@@ -17,7 +17,7 @@ loop-node-preserved c =
     ∙ (ap (λ (p : List ℕ). get_by (λ key. bytes_eq p key.items) c.in_ok-listed.listed) c.as_slice.ensures.value ∙ c.in_ok-listed.ensures path) in
     let whose : whose_pin c.finished.result ≡ with_owner c.args.own.now c.args.ranks (path_pin node) =
     rw (c.finished.ensures.path, c.finished.ensures.pin, c.finished.ensures.idle, c.finished.ensures.earlier, rank) refl in
-    let places : position_of c.finished.result ≡ position_of node.directory = rw (c.finished.ensures.now, c.finished.ensures.spread) refl in
+    let places : position_of c.finished.result ≡ position_of node.directory = rw (c.finished.ensures.now, c.finished.ensures.spread, c.finished.ensures.parent) refl in
     let more : (C : Type 0) (f : Directory → C) (g : Node → C) → map f c.loop-node.directories.items ≡ map g c.loop-node.yielded → f c.finished.result ≡ g node
     → map f c.push.new.self.items ≡ map g (c.loop-node.yielded ++ node ∷ []) =
     λ C f g before one. mapped_more f g c.loop-node.directories.items c.push.new.self.items c.loop-node.yielded c.finished.result node c.in_ok-push.ensures.items before one in

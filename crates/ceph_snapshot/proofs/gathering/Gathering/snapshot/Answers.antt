@@ -8,20 +8,21 @@ use Rattle.ceph_snapshot.specs.Authority.{LieAsClaimed, is_true_of}
 use Rattle.ceph_snapshot.specs.Gathered.{with_owner}
 use Rattle.ceph_snapshot.specs.Sightings.{LieAt, mean_account, position_of, account_of, account_at, account_by}
 use Rattle.ceph_snapshot.proofs.Owners.{owner_from_map, pin_placed, account_placed}
+use Rattle.ceph_snapshot.proofs.Parents.{snapshot_of}
 use Rattle.ceph_snapshot.proofs.Sighted.{at_map, seen_at}
 use Rattle.ceph_snapshot.proofs.gathering.Gathering.snapshot.Goals as goal
 
 pub see_all-requires-clause-cold : goal.see_all-requires-clause-cold
 see_all-requires-clause-cold c = λ i t h.
     let nodes : List Node = c.args.self.tree.nodes in
-    let claimed : LieAsClaimed nodes c.place_all.new.nodes.items = subst (λ (ns : List Node). LieAsClaimed ns c.place_all.new.nodes.items) c.into_parts-nodes.ensures.nodes c.in_ok-place_all.ensures.placed in
+    let claimed : LieAsClaimed nodes c.place_all.new.nodes.items = subst (λ (ns : List Node). LieAsClaimed ns c.place_all.new.nodes.items) c.into_parts-nodes.ensures.nodes c.place_all.ensures in
     c.into_parts-nodes.ensures.cold i t (sym (c.hold_tops.ensures.account i ∙ account_placed nodes c.place_all.new.nodes.items claimed i) ∙ h)
 
 pub returns-clause-authority : goal.returns-clause-authority
 returns-clause-authority c =
     let nodes : List Node = c.args.self.tree.nodes in
     let placed : List Node = c.place_all.new.nodes.items in
-    let claimed : LieAsClaimed nodes placed = subst (λ (ns : List Node). LieAsClaimed ns placed) c.into_parts-nodes.ensures.nodes c.in_ok-place_all.ensures.placed in
+    let claimed : LieAsClaimed nodes placed = subst (λ (ns : List Node). LieAsClaimed ns placed) c.into_parts-nodes.ensures.nodes c.place_all.ensures in
     let confirmed : All (λ said. is_true_of placed said ≡ true) c.args.self.hearsay.items = search rules in
     let lie : LieAt placed c.keep.new.directories.items = λ i.
     c.in_ok-keep.ensures.place i
@@ -37,7 +38,7 @@ returns-clause-seen c = λ i d l.
     let counted : List Node = c.see_all.new.nodes.items in
     let ss : List Sighting = c.into_parts-nodes.result.1.items in
     let ds : List Directory = c.keep.new.directories.items in
-    let claimed : LieAsClaimed nodes placed = subst (λ (ns : List Node). LieAsClaimed ns placed) c.into_parts-nodes.ensures.nodes c.in_ok-place_all.ensures.placed in
+    let claimed : LieAsClaimed nodes placed = subst (λ (ns : List Node). LieAsClaimed ns placed) c.into_parts-nodes.ensures.nodes c.place_all.ensures in
     let here : slice_get ds i ≡ Some (get_or ds i d) = slice_get-get_or ds i d l in
     let all : account_at counted i ≡ option_map (λ (n : Node). account_by i ss n.directory) (slice_get held i) =
     subst (λ (those : List Sighting). account_at counted i ≡ option_map (λ (n : Node). account_by i those n.directory) (slice_get held i)) c.as_slice-4.ensures.value (c.in_ok-spread.ensures.account i) in
@@ -51,8 +52,15 @@ returns-clause-seen c = λ i d l.
 pub returns-clause-owner : goal.returns-clause-owner
 returns-clause-owner c = λ i.
     let nodes : List Node = c.args.self.tree.nodes in
-    let claimed : LieAsClaimed nodes c.place_all.new.nodes.items = subst (λ (ns : List Node). LieAsClaimed ns c.place_all.new.nodes.items) c.into_parts-nodes.ensures.nodes c.in_ok-place_all.ensures.placed in
+    let claimed : LieAsClaimed nodes c.place_all.new.nodes.items = subst (λ (ns : List Node). LieAsClaimed ns c.place_all.new.nodes.items) c.into_parts-nodes.ensures.nodes c.place_all.ensures in
     c.in_ok-keep.ensures.owner i
     ∙ (owner_from_map c.in_ok-directories.directories.items c.see_all.new.nodes.items (with_owner c.args.own.now c.args.ranks) c.in_ok-directories.ensures.owner i
     ∙ ap (option_map (with_owner c.args.own.now c.args.ranks)) (c.see_all.ensures.pinned i
     ∙ (c.hold_tops.ensures.pinned i ∙ pin_placed nodes c.place_all.new.nodes.items claimed i)))
+
+pub returns-clause-snapshot : goal.returns-clause-snapshot
+unfolding returns-clause-authority
+returns-clause-snapshot c =
+    let nodes : List Node = c.args.self.tree.nodes in
+    let placed : List Node = c.place_all.new.nodes.items in
+    snapshot_of nodes placed (record { directories = c.keep.new.directories; spread = c.in_ok-spread.spread }) c.args.own.now c.args.ranks c.into_parts-nodes.ensures.below (returns-clause-authority c).1 (returns-clause-authority c).3 (returns-clause-owner c) c.in_ok-keep.ensures.kept c.in_ok-spread.ensures.spread

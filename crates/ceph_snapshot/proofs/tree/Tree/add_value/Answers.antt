@@ -17,7 +17,7 @@ both c =
           let inside : c.args.directory < length nodes = omega (arith, w.in-Some.ensures.variant.0 refl, t.nodes.ok.0) in
           let read : slice_get nodes c.args.directory ≡ Some w.in-Some.node.now = slice_get_read nodes (length nodes) c.args.directory w.in-Some.node.now refl inside w.in-Some.ensures.value in
           subst (λ (s : Inside). IsNumbered s.names s.nodes.items s.sightings.items × (map (with_path s.nodes.items) s.sightings.items ≡ map (with_path nodes) t.sightings.items)) (sym w.self-inside-is)
-          (numbered_set t.names nodes c.args.directory w.in-Some.node.now w.add_value.new.node t.sightings.items inside read w.add_value.ensures.account c.self.invariant)
+          (numbered_set t.names nodes c.args.directory w.in-Some.node.now w.add_value.new.node t.sightings.items inside read w.add_value.ensures.account w.add_value.ensures.parent c.self.invariant)
       | in_default w ↦ subst (λ (s : Inside). IsNumbered s.names s.nodes.items s.sightings.items × (map (with_path s.nodes.items) s.sightings.items ≡ map (with_path nodes) t.sightings.items)) (sym w.self-inside-is)
           (c.self.invariant, refl)
     ]

@@ -1,5 +1,10 @@
-use Rattle.std.proofs.Common.{◌≡◌}
+use Rattle.std.proofs.Common.{◌≡◌, take}
+use Rattle.ceph_snapshot.specs.Sightings.{IsParentOf}
 use Rattle.ceph_snapshot.proofs.tree.Tree.number.Given as goal
 
+-- the path up to here lies below the directory with this number
 abbrev pub invariant-loop-end : goal.invariant-loop-end
-invariant-loop-end l = l.self.seen ≡ l.fn.self.seen
+invariant-loop-end l = record {
+  seen : l.self.seen ≡ l.fn.self.seen;
+  above : IsParentOf l.self.nodes (take l.end l.path) l.number;
+}

@@ -4,7 +4,7 @@ use Rattle.std.proofs.lemmas.Bool.{cond-true}
 use Rattle.std.proofs.lemmas.Slice.Eq.{bytes_eq-Decides}
 use Rattle.ceph_snapshot.specs.declared.tree.Node.{Node}
 use Rattle.ceph_snapshot.specs.Names.{path_number}
-use Rattle.ceph_snapshot.specs.Sightings.{IsNumberOf, IsNumbered, TreeData, account_of, with_path}
+use Rattle.ceph_snapshot.specs.Sightings.{Account, IsNumberOf, IsNumbered, IsParentOf, TreeData, account_of, with_path}
 use Rattle.ceph_snapshot.proofs.Numbers.{at_number, numbered_more, seen_same, account_more}
 use Rattle.ceph_snapshot.proofs.tree.Tree.number_below.Goals as goal
 
@@ -24,9 +24,13 @@ invariant_of-self-2 c =
     let put : (p : List ℕ) → path_number c.insert.new.self p ≡ cond (bytes_eq path p) (Some c.in-Ok.number) (path_number t.names p) =
     subst (λ (q : List ℕ). (p : List ℕ) → path_number c.insert.new.self p ≡ cond (bytes_eq q p) (Some c.in-Ok.number) (path_number t.names p)) c.in_ok-from_slice-2.ensures.items c.in_ok-insert.ensures.put in
     let is : c.in-Ok.number ≡ length t.nodes.items = search rules in
-    let cold : account_of node.directory ≡ (path, (0, (0, None))) = c.unknown-node.ensures ∙ ap (λ (p : List ℕ). (p, (0, (0, None)))) c.in_ok-from_slice.ensures.items in
+    let cold : account_of node.directory ≡ (path, (0, (0, None))) = c.unknown-node.ensures.account ∙ ap (λ (p : List ℕ). (p, (0, (0, None)))) c.in_ok-from_slice.ensures.items in
+    let below : IsParentOf t.nodes.items path c.args.parent = subst (λ (v : TreeData). IsParentOf v.nodes path c.args.parent) (sym c.self.view_is) c.requires in
+    let lies : IsParentOf t.nodes.items node.directory.path.items node.directory.parent =
+    subst (λ (p : List ℕ). IsParentOf t.nodes.items p node.directory.parent) (sym (ap (λ (a : Account). a.0) cold))
+    (subst (λ (k : ℕ). IsParentOf t.nodes.items path k) (sym c.unknown-node.ensures.parent) below) in
     subst (λ (ns : List Node). IsNumbered c.insert.new.self ns t.sightings.items) (sym items)
-    (numbered_more t.names c.insert.new.self t.nodes.items node path c.in-Ok.number t.sightings.items fresh put is cold c.self.invariant)
+    (numbered_more t.names c.insert.new.self t.nodes.items node path c.in-Ok.number t.sightings.items fresh put is cold lies c.self.invariant)
 
 pub returns-clause-seen : goal.returns-clause-seen
 returns-clause-seen c =
