@@ -69,7 +69,7 @@ impl Records {
     }
 
     /// Takes room for one more entry, where an entry is written.
-    fn grow_entry(&mut self, rank: Option<Rank>) -> Result<(), AllocError>
+    pub(crate) fn grow_entry(&mut self, rank: Option<Rank>) -> Result<(), AllocError>
         requires near { IfSome rank (λ r. r < length self.old.journals.items) }
         requires listing { IfSome rank (λ r. r < length self.old.open_at.items) }
         ensures world { world_of self.new ≡ world_of self.old }
@@ -89,7 +89,7 @@ impl Records {
     }
 
     /// Takes room in the lists that an event adds to, except journals.
-    fn grow_lists(&mut self, event: &Event) -> Result<(), AllocError>
+    pub(crate) fn grow_lists(&mut self, event: &Event) -> Result<(), AllocError>
         ensures world { world_of self.new ≡ world_of self.old }
         ensures indexes { indexes_of self.new ≡ indexes_of self.old }
         ensures room { OnOk result (has_list_places self.new (event.now) ≡ true) }
@@ -137,7 +137,7 @@ impl Records {
 impl Cluster {
     /// The journal in which this accepted event is entered, if it is.
     #[tactic(auto, unfolding(crate::specs::Kept::entered_at))]
-    fn journal_rank(&self, event: &Event) -> Option<Rank>
+    pub(crate) fn journal_rank(&self, event: &Event) -> Option<Rank>
         requires { refusal self.now.world (event.now) ≡ None }
         ensures rank { result ≡ entered_at self.now.world (event.now) }
         ensures near { IfSome result (λ rank. rank < length self.now.world.journals) }
@@ -151,18 +151,5 @@ impl Cluster {
             Event::Notify(export) => Some(self.records.from(*export)),
             _ => None,
         }
-    }
-
-    /// Takes the memory that an accepted event needs. Where there is room already it takes none.
-    pub(crate) fn grow(&mut self, event: &Event) -> Result<(), AllocError>
-        requires { refusal self.old.world (event.now) ≡ None }
-        ensures world { self.new.world ≡ self.old.world }
-        ensures room { OnOk result (is_ready self.new (event.now) ≡ true) }
-        ensures ready { is_ready self.old (event.now) ≡ true → IsOk result }
-        ensures spare { KeepsRoom self.old self.new }
-    {
-        let rank = self.journal_rank(event);
-        self.records.grow_entry(rank)?;
-        self.records.grow_lists(event)
     }
 }

@@ -78,7 +78,7 @@ impl Cluster {
         ensures spare { KeepsRoom self.old self.new }
     {
         self.check_by_marks(event)?;
-        match self.grow(event) {
+        match self.reserve(event) {
             Ok(()) => Ok(()),
             Err(_) => Err(StepError::Memory),
         }
@@ -190,9 +190,12 @@ impl Cluster {
         requires { refusal self.old.world (event.now) ≡ None }
         ensures world { self.new.world ≡ self.old.world }
         ensures room { OnOk result (is_ready self.new (event.now) ≡ true) }
+        ensures ready { is_ready self.old (event.now) ≡ true → IsOk result }
         ensures spare { KeepsRoom self.old self.new }
     {
-        self.grow(event)
+        let rank = self.journal_rank(event);
+        self.records.grow_entry(rank)?;
+        self.records.grow_lists(event)
     }
 
     /// The rank that has authority over a directory.

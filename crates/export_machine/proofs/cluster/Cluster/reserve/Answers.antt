@@ -6,7 +6,7 @@ use Rattle.std.specs.Result.{IsOk}
 use Rattle.export_machine.specs.Kept.{State, has_entry_places}
 use Rattle.export_machine.proofs.Bounds.{on_ok, kept_same, room_parts, lists_kept, grown_room, ready_is, keeps_room}
 use Rattle.export_machine.proofs.Receiving.{as_lists}
-use Rattle.export_machine.proofs.cluster.Cluster.grow.Goals as goal
+use Rattle.export_machine.proofs.cluster.Cluster.reserve.Goals as goal
 
 some_near : (o : Option ℕ) (a b : ℕ) → b ≡ a → IfSome o (λ r. r < a) → IfSome o (λ r. r < b)
 some_near None a b e h = tt
