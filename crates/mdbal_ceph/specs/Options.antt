@@ -16,6 +16,7 @@ use Rattle.ceph_plan.specs.declared.choice.PartCount.TheVariants.{AtMost, Auto}
 use Rattle.ceph_report.specs.Check.{all_hold, check_text}
 use Rattle.ceph_report.specs.declared.check.PinCheck.{PinCheck}
 use Rattle.ceph_snapshot.specs.declared.directory.Directory.{Directory}
+use Rattle.ceph_snapshot.specs.Snapshots.{IsSnapshot}
 use Rattle.mdbal_ceph.specs.declared.collected.Collected.{Collected}
 use Rattle.mdbal_ceph.specs.declared.outcome.Outcome.{Outcome}
 use Rattle.mdbal_ceph.specs.declared.settings.PlanSettings.{PlanSettings}
@@ -86,6 +87,7 @@ pub record IsPlanWritten (settings : PlanSettings) (output : PlanOutput) : Type 
   pub collected : Collected
   pub outcome : Outcome
   pub own : is_some collected.own ≡ is_some settings.own
+  pub snapshot : IsSnapshot collected.snapshot
   pub ours : HasOurPins collected
   pub ranks : AreUsable settings.mask (option_map string_bytes collected.cluster.mask) collected.cluster outcome.ranks
   pub of : IsOutcome collected.snapshot.directories.items collected.snapshot.spread.items

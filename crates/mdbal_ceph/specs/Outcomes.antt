@@ -8,8 +8,8 @@ use Rattle.ceph_distributed.specs.Spreads.{IsAdvised}
 use Rattle.ceph_snapshot.specs.declared.directory.Directory.{Directory}
 use Rattle.ceph_snapshot.specs.declared.held.Held.{Held}
 use Rattle.ceph_folding.specs.Folding.{IsFolded}
-use Rattle.ceph_snapshot.specs.Holding.{AreParentsFirst, IsHeld, held_at, held_below, is_holding, most_heat}
-use Rattle.ceph_snapshot.specs.Policies.{KeepUnpinnable, StillKeepUnpinnable}
+use Rattle.ceph_snapshot.specs.Holding.{IsHeld, held_at, held_below, is_holding, most_heat}
+use Rattle.ceph_snapshot.specs.Policies.{StillKeepUnpinnable}
 use Rattle.ceph_snapshot.specs.Rows.{AreRowsOf, free_heat}
 use Rattle.ceph_plan.specs.Packing.{IsAsGreat, IsBoundOf}
 use Rattle.ceph_plan.specs.declared.choice.Wanted.{Wanted}
@@ -62,7 +62,7 @@ pub record IsDecision (directories : List Directory) (spread : List ℕ) (ranks 
 -- the heat of each directory that nothing holds, and none of one that is held, before any directory is folded
 pub record AreFreeHeats (collected : List Directory) (heats : List ℕ) : Type 0 where
   pub holds : List Held
-  pub held : AreParentsFirst collected → (i : ℕ) → i < length collected → IsHeld collected i (held_at holds i)
+  pub held : (i : ℕ) → i < length collected → IsHeld collected i (held_at holds i)
   pub size : length heats ≡ length collected
   pub free : (i : ℕ) → i < length collected → slice_index heats i ≡ free_heat collected holds i
 
@@ -98,7 +98,7 @@ pub record IsOutcome
   pub same : length collected ≤ DIR_LIMIT → outcome.directories.items ≡ collected
   pub folded : IsFolded collected outcome.directories.items
   pub count : length outcome.directories.items + outcome.folded ≡ length collected
-  pub unpinnable : KeepUnpinnable collected → StillKeepUnpinnable collected outcome.directories.items
+  pub unpinnable : StillKeepUnpinnable collected outcome.directories.items
   pub decided : IsDecision outcome.directories.items spread outcome.ranks wanted outcome.decision
   pub hottest : IsHottestOfAll collected outcome.hottest
   pub advice : IsAdviceOfAll collected outcome.size outcome.advice

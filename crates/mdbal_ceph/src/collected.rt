@@ -1,6 +1,7 @@
 //! Reads the files that `ceph/collect` wrote.
-ghost use Rattle.std.specs.Prelude.{◌≡◌, ◌<◌, [], length, IfOk, is_some};
+ghost use Rattle.std.specs.Prelude.{◌≡◌, ◌<◌, [], IfOk, is_some};
 ghost use Rattle.std.specs.Option.{option_map_or};
+ghost use Rattle.ceph_snapshot.specs.Snapshots.{IsSnapshot};
 ghost use Rattle.mdbal_ceph.specs.Collections.{HasOurPins};
 ghost use Rattle.mdbal_ceph.specs.Options.{AreNamed};
 
@@ -247,7 +248,7 @@ pub fn read_collected<R: Files + AllocGlobal + Clock + Eprint>(
     folder: &str,
     own: Option<&str>,
 ) -> Result<Collected, Error>
-    ensures spread { IfOk result (λ collected. length collected.snapshot.spread.items ≡ 64) }
+    ensures snapshot { IfOk result (λ collected. IsSnapshot collected.snapshot) }
     ensures own { IfOk result (λ collected. is_some collected.own ≡ is_some own.entry) }
     ensures ours { IfOk result (λ collected. HasOurPins collected) }
 {

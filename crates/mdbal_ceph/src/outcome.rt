@@ -2,7 +2,9 @@
 ghost use Rattle.std.specs.Prelude.{◌≡◌, ◌≤◌, ◌+◌, IfOk, IsOkAnd, length, min, string_bytes};
 ghost use Rattle.std.specs.Option.{option_map};
 ghost use Rattle.ceph_folding.specs.Folding.{IsFolded};
+ghost use Rattle.ceph_snapshot.specs.Holding.{AreParentsFirst};
 ghost use Rattle.ceph_snapshot.specs.Policies.{KeepUnpinnable, StillKeepUnpinnable};
+ghost use Rattle.ceph_snapshot.specs.Snapshots.{IsSnapshot};
 ghost use Rattle.mdbal_ceph.specs.Options.{wanted_by};
 ghost use Rattle.mdbal_ceph.specs.Outcomes.{AreFreeHeats, IsDecision, IsOutcome};
 ghost use Rattle.mdbal_ceph.specs.Usable.{AreUsable};
@@ -142,6 +144,7 @@ fn folded(
 
 /// The heat of each directory that nothing holds, as it was collected.
 fn collected_heats(alloc: Global, directories: &[Directory]) -> Result<Vec<u64>, AllocError>
+    requires { AreParentsFirst directories.now }
     ensures { IfOk result (λ heats. AreFreeHeats directories.now heats.items) }
 {
     let holds = holds(alloc, directories)?;
@@ -154,7 +157,7 @@ pub fn planned(
     settings: &PlanSettings,
     collected: Collected,
 ) -> Result<Outcome, Error>
-    requires { length collected.snapshot.spread.items ≡ 64 }
+    requires { IsSnapshot collected.snapshot }
     ensures outcome { IfOk result (IsOutcome collected.snapshot.directories.items collected.snapshot.spread.items
         (wanted_by settings.now collected.balances)) }
     ensures ranks { IfOk result (λ outcome. AreUsable settings.now.mask

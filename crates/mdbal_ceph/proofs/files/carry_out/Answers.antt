@@ -5,6 +5,7 @@ returns g c = record {
   collected = c.in_ok-collected.collected;
   outcome = c.in_ok-outcome.outcome;
   own = c.in_ok-collected.ensures.own;
+  snapshot = c.in_ok-collected.ensures.snapshot;
   ours = c.in_ok-collected.ensures.ours;
   ranks = c.in_ok-outcome.ensures.ranks;
   of = c.in_ok-outcome.ensures.outcome;

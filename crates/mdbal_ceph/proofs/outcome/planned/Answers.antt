@@ -37,7 +37,7 @@ returns-clause-outcome c =
       same = c.in_ok-directories.ensures.same;
       folded = c.in_ok-directories.ensures.folded;
       count = c.in_ok-directories.ensures.count;
-      unpinnable = c.in_ok-directories.ensures.unpinnable;
+      unpinnable = c.in_ok-directories.ensures.unpinnable c.requires.kept;
       decided =
           subst (λ (wanted : Wanted). IsDecision directories spread c.in_ok-ranks.ranks wanted decision) c.wanted_by-wanted.ensures
           (subst (λ (heats : List ℕ). IsDecision directories heats c.in_ok-ranks.ranks c.wanted_by-wanted.result decision) c.deref-7.ensures.value
