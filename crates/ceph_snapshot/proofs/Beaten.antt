@@ -51,14 +51,14 @@ to_children ds at (suc n) first below is =
       above = record { steps = n; policy = is.3 };
     })
 
-or_cases : (a b : Bool) → (a || b) ≡ true → (a ≡ true) ⊎ (b ≡ true)
+pub or_cases : (a b : Bool) → (a || b) ≡ true → (a ≡ true) ⊎ (b ≡ true)
 or_cases true b is = inl refl
 or_cases false b is = inr is
 
-or_one : (a b : Bool) → a ≡ true → (a || b) ≡ true
+pub or_one : (a b : Bool) → a ≡ true → (a || b) ≡ true
 or_one a b is = rw is refl
 
-or_other : (a b : Bool) → b ≡ true → (a || b) ≡ true
+pub or_other : (a b : Bool) → b ≡ true → (a || b) ≡ true
 or_other true b is = refl
 or_other false b is = is
 

@@ -7,3 +7,4 @@ pub mod Owners
 pub mod Parents
 pub mod Placing
 pub mod Sighted
+pub mod Told

@@ -29,7 +29,7 @@ path_of (Some n) = refl
 pub path_account : (nodes : List Node) (i : ℕ) (t : Account) → account_at nodes i ≡ Some t → node_path_at nodes i ≡ t.0
 path_account nodes i t is = path_of (slice_get nodes i) ∙ ap (λ (o : Option Account). option_map_or (λ (one : Account). one.0) o []) is
 
-path_same : (old new : List Node) (i : ℕ) → account_at new i ≡ account_at old i → node_path_at new i ≡ node_path_at old i
+pub path_same : (old new : List Node) (i : ℕ) → account_at new i ≡ account_at old i → node_path_at new i ≡ node_path_at old i
 path_same old new i same = path_of (slice_get new i) ∙ (ap (λ (o : Option Account). option_map_or (λ (t : Account). t.0) o []) same ∙ sym (path_of (slice_get old i)))
 
 parent_of : (o : Option Node) → option_map_or (λ (n : Node). n.directory.parent) o 0 ≡ unwrap_or (option_map (λ (n : Node). n.directory.parent) o) 0

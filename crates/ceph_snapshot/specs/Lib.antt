@@ -1,4 +1,5 @@
 pub mod Authority
+pub mod Facts
 pub mod Gathered
 pub mod Holding
 pub mod Names

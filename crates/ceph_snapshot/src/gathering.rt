@@ -1,10 +1,11 @@
 //! Gathers what the dumps of all ranks say. A directory has its heat from the rank that has authority: the nearest
 //! subtree root at or above it decides. Where that root is in fragments at several ranks, there is no such rank: the
 //! directory, and what is below it with no root of its own, is spread.
-ghost use Rattle.std.specs.Prelude.{◌≡◌, ◌++◌, [], ℕ, List, Some, true, IfOk, IsErrOf, OnOk};
+ghost use Rattle.std.specs.Prelude.{◌≡◌, ◌++◌, ◌∷◌, [], ℕ, List, Some, false, true, IfOk, IsErrOf, OnOk};
 ghost use Rattle.std.specs.List.{IsAmong};
 ghost use Rattle.ceph_snapshot.specs.Authority.{AreClaimed, IsClaim, IsClaimedTwice, StillClaimed};
 ghost use Rattle.ceph_snapshot.specs.Authority.{PathText, fragment_of};
+ghost use Rattle.ceph_snapshot.specs.Facts.{AreAsTold, Fact, StillTold, roots_in, values_in};
 ghost use Rattle.ceph_snapshot.specs.Names.{path_number};
 ghost use Rattle.ceph_snapshot.specs.Sightings.{seen_in};
 
@@ -40,7 +41,9 @@ pub struct Gathering {
 impl Gathering {
     /// Only the root, at rank 0.
     pub fn new(alloc: Global) -> Result<Gathering, SnapshotError>
-        ensures { IfOk result (λ gathering. gathering.tree.seen ≡ []) }
+        ensures seen { IfOk result (λ gathering. gathering.tree.seen ≡ []) }
+        ensures told { IfOk result (λ gathering. AreAsTold gathering.tree.nodes []) }
+        ensures listed { IfOk result (λ gathering. gathering.is_listed ≡ false) }
     {
         Ok(Gathering {
             alloc,
@@ -54,7 +57,9 @@ impl Gathering {
 
     /// Adds a sample of the heat that a rank has seen, and the inode numbers of the directories.
     pub fn add_loads(&mut self, rank: Rank, loads: &[FragmentHeat]) -> Result<(), SnapshotError>
-        ensures { OnOk result (self.new.tree.seen ≡ self.old.tree.seen ++ seen_in rank loads.now) }
+        ensures seen { OnOk result (self.new.tree.seen ≡ self.old.tree.seen ++ seen_in rank loads.now) }
+        ensures told { OnOk result (StillTold self.old.tree.nodes self.new.tree.nodes) }
+        ensures listed { self.new.is_listed ≡ self.old.is_listed }
     {
         for fragment in loads {
             self.tree.see(self.alloc, rank, fragment)?;
@@ -66,6 +71,7 @@ impl Gathering {
     fn claim(&mut self, rank: Rank, root: &SubtreeRoot) -> Result<(), SnapshotError>
         requires { root.now.is_here ≡ true }
         ensures tree { self.new.tree ≡ self.old.tree }
+        ensures listed { self.new.is_listed ≡ self.old.is_listed }
         ensures twice { (path : PathText) (one two : ℕ) → IsErrOf result (SnapshotError.TwoClaims path one two)
             → IsClaimedTwice self.new.fragments root.now rank path one two }
         ensures claimed { OnOk result ((fragment : List ℕ) → fragment_of root.now ≡ Some fragment
@@ -94,6 +100,8 @@ impl Gathering {
     fn hold_top(&mut self, path: &[u8]) -> Result<(), SnapshotError>
         ensures claims { self.new.fragments ≡ self.old.fragments }
         ensures seen { self.new.tree.seen ≡ self.old.tree.seen }
+        ensures told { OnOk result (StillTold self.old.tree.nodes self.new.tree.nodes) }
+        ensures listed { self.new.is_listed ≡ self.old.is_listed }
         ensures twice { (path : PathText) (one two : ℕ) → IsErrOf result (SnapshotError.TwoClaims path one two) → ⊥ }
     {
         let slash = path.iter().skip(1).position(|byte| *byte == b'/');
@@ -115,6 +123,9 @@ impl Gathering {
             → path_number self.new.fragments fragment ≡ Some rank) }
         ensures kept { OnOk result (StillClaimed self.old.fragments self.new.fragments) }
         ensures seen { self.new.tree.seen ≡ self.old.tree.seen }
+        ensures told { (facts : List Fact) → AreAsTold self.old.tree.nodes facts
+            → OnOk result (AreAsTold self.new.tree.nodes (facts ++ roots_in rank (root.now ∷ []))) }
+        ensures listed { self.new.is_listed ≡ self.old.is_listed }
     {
         let Some(directory) = self.tree.number(self.alloc, root.path.as_slice())? else {
             return Ok(());
@@ -142,6 +153,9 @@ impl Gathering {
         ensures claimed { OnOk result (AreClaimed self.new.fragments roots.now rank) }
         ensures kept { OnOk result (StillClaimed self.old.fragments self.new.fragments) }
         ensures seen { self.new.tree.seen ≡ self.old.tree.seen }
+        ensures told { (facts : List Fact) → AreAsTold self.old.tree.nodes facts
+            → OnOk result (AreAsTold self.new.tree.nodes (facts ++ roots_in rank roots.now)) }
+        ensures listed { self.new.is_listed ≡ self.old.is_listed }
     {
         for root in roots {
             self.add_subtree(rank, root)?;
@@ -153,11 +167,14 @@ impl Gathering {
     pub fn add_listing(&mut self, listing: &[ListedDir]) -> Result<(), SnapshotError>
         ensures claims { self.new.fragments ≡ self.old.fragments }
         ensures seen { self.new.tree.seen ≡ self.old.tree.seen }
+        ensures told { (facts : List Fact) → AreAsTold self.old.tree.nodes facts
+            → OnOk result (AreAsTold self.new.tree.nodes (facts ++ values_in listing.now)) }
+        ensures listed { OnOk result (self.new.is_listed ≡ true) }
     {
         self.is_listed = true;
         for listed in listing {
             if let Some(number) = self.tree.number(self.alloc, listed.path.as_slice())? {
-                self.tree.add_value(number, listed.value);
+                self.tree.add_value(number, listed);
             }
         }
         Ok(())

@@ -1,15 +1,15 @@
 //! The directories that dumps name, and the heat that ranks have seen at them.
-ghost use Rattle.std.specs.Prelude.{◌≡◌, ◌++◌, ◌∷◌, [], ℕ, Some, None, is_some, max, IfOk, IfSome, IsErrOf, OnOk};
-ghost use Rattle.std.specs.Prelude.{◌<◌, true, false, All, length, map, slice_index_or, take, if◌then◌else◌};
-ghost use Rattle.ceph_dumps.specs.declared.listing.ListedValue.TheVariants as listed;
+ghost use Rattle.std.specs.Prelude.{◌≡◌, ◌++◌, ◌∷◌, [], ℕ, Some, None, is_some, IfOk, IfSome, IsErrOf, OnOk};
+ghost use Rattle.std.specs.Prelude.{◌<◌, All, List, length, map, slice_index_or, take, if◌then◌else◌};
 ghost use Rattle.ceph_snapshot.specs.Authority.{PathText, is_user_path};
+ghost use Rattle.ceph_snapshot.specs.Facts.{AreAsTold, Fact, IsAsTold, IsWith, Root, StillTold, Value};
 ghost use Rattle.ceph_snapshot.specs.Sightings.{AreBelowParents, AreCold, HaveOwnPaths, IsNumberOf, IsParentOf};
 ghost use Rattle.ceph_snapshot.specs.Sightings.{of_fragment, account_of, with_path};
 
 use crate::directory::Directory;
 use crate::names::Names;
 use crate::snapshot_error::SnapshotError;
-use ceph_dumps::{FragmentHeat, ListedValue, SubtreeRoot};
+use ceph_dumps::{FragmentHeat, ListedDir, ListedValue, SubtreeRoot};
 use mds_types::Rank;
 use std::alloc::{AllocError, Global};
 use std::marker::Model;
@@ -61,7 +61,8 @@ impl Model for Tree {
 impl Tree {
     /// Only the root, at rank 0.
     pub(crate) fn new(alloc: Global) -> Result<Tree, AllocError>
-        ensures { IfOk result (λ tree. tree.seen ≡ []) }
+        ensures seen { IfOk result (λ tree. tree.seen ≡ []) }
+        ensures told { IfOk result (λ tree. AreAsTold tree.nodes []) }
     {
         Ok(Tree {
             names: Names::new(alloc)?,
@@ -80,6 +81,7 @@ impl Tree {
         requires { IsParentOf self.old.nodes path.now parent }
         ensures seen { self.new.seen ≡ self.old.seen }
         ensures path { IfOk result (IsNumberOf self.new.nodes path.now) }
+        ensures kept { OnOk result (StillTold self.old.nodes self.new.nodes) }
         ensures twice { (path : PathText) (one two : ℕ) → IsErrOf result (SnapshotError.TwoClaims path one two) → ⊥ }
     {
         if let Some(number) = self.names.number(path) {
@@ -119,6 +121,7 @@ impl Tree {
         ensures seen { self.new.seen ≡ self.old.seen }
         ensures some { IfOk result (λ number. is_some number ≡ is_user_path path.now) }
         ensures path { IfOk result (λ number. IfSome number (IsNumberOf self.new.nodes path.now)) }
+        ensures kept { OnOk result (StillTold self.old.nodes self.new.nodes) }
         ensures twice { (path : PathText) (one two : ℕ) → IsErrOf result (SnapshotError.TwoClaims path one two) → ⊥ }
     {
         if !is_user_path(path) {
@@ -143,8 +146,9 @@ impl Tree {
         rank: Rank,
         fragment: &FragmentHeat,
     ) -> Result<(), SnapshotError>
-        ensures { OnOk result (self.new.seen ≡ self.old.seen
+        ensures seen { OnOk result (self.new.seen ≡ self.old.seen
             ++ (if is_user_path fragment.now.path.items then of_fragment rank fragment.now ∷ [] else [])) }
+        ensures kept { OnOk result (StillTold self.old.nodes self.new.nodes) }
     {
         if let Some(directory) = self.number(alloc, fragment.path.as_slice())? {
             self.sightings.push(Sighting {
@@ -160,20 +164,22 @@ impl Tree {
 
     /// Adds what a rank says of the root of a subtree, which is this directory.
     pub(crate) fn add_root(&mut self, directory: u32, rank: Rank, root: &SubtreeRoot)
-        ensures { self.new.seen ≡ self.old.seen }
+        requires { IsNumberOf self.old.nodes root.now.path.items directory }
+        ensures seen { self.new.seen ≡ self.old.seen }
+        ensures told { (facts : List Fact) → AreAsTold self.old.nodes facts
+            → AreAsTold self.new.nodes (facts ++ Root rank root.now ∷ []) }
     {
-        if let Some(node) = self.nodes.get_mut(directory as usize) {
-            add_root(node, rank, root);
-        }
+        add_root(&mut self.nodes[directory as usize], rank, root);
     }
 
-    /// Adds a value that was listed of a directory.
-    pub(crate) fn add_value(&mut self, directory: u32, value: ListedValue)
-        ensures { self.new.seen ≡ self.old.seen }
+    /// Adds a value that was listed of this directory.
+    pub(crate) fn add_value(&mut self, directory: u32, listed: &ListedDir)
+        requires { IsNumberOf self.old.nodes listed.now.path.items directory }
+        ensures seen { self.new.seen ≡ self.old.seen }
+        ensures told { (facts : List Fact) → AreAsTold self.old.nodes facts
+            → AreAsTold self.new.nodes (facts ++ Value listed.now ∷ []) }
     {
-        if let Some(node) = self.nodes.get_mut(directory as usize) {
-            add_value(node, value);
-        }
+        add_value(&mut self.nodes[directory as usize], listed);
     }
 
     /// The directories and what was seen at them.
@@ -200,6 +206,7 @@ fn is_user_path(path: &[u8]) -> bool
 fn unknown(path: Vec<u8>, parent: u32) -> Node
     ensures account { account_of result.directory ≡ (path.items, (0, (0, None))) }
     ensures parent { result.directory.parent ≡ parent }
+    ensures told { IsAsTold [] result }
 {
     Node {
         directory: Directory {
@@ -227,8 +234,7 @@ fn unknown(path: Vec<u8>, parent: u32) -> Node
 fn add_root(node: &mut Node, rank: Rank, root: &SubtreeRoot)
     ensures account { account_of node.new.directory ≡ account_of node.old.directory }
     ensures parent { node.new.directory.parent ≡ node.old.directory.parent }
-    ensures here { root.now.is_here ≡ true → node.new.root ≡ Some rank }
-    ensures elsewhere { root.now.is_here ≡ false → node.new.root ≡ node.old.root }
+    ensures told { IsWith (Root rank root.now) node.old node.new }
 {
     if root.is_here {
         let is_elsewhere = node.root.is_some_and(|other| other != rank);
@@ -241,14 +247,12 @@ fn add_root(node: &mut Node, rank: Rank, root: &SubtreeRoot)
 }
 
 /// Adds a value that was listed of a directory.
-fn add_value(node: &mut Node, value: ListedValue)
+fn add_value(node: &mut Node, listed: &ListedDir)
     ensures account { account_of node.new.directory ≡ account_of node.old.directory }
     ensures parent { node.new.directory.parent ≡ node.old.directory.parent }
-    ensures entries { (count : ℕ) → value ≡ listed.Entries count → node.new.directory.inodes ≡ max count 1 }
-    ensures pin { (rank : ℕ) → value ≡ listed.Pin (Some rank) → node.new.pinned ≡ Some rank }
-    ensures no_pin { value ≡ listed.Pin None → node.new.pinned ≡ node.old.pinned }
+    ensures told { IsWith (Value listed.now) node.old node.new }
 {
-    match value {
+    match listed.value {
         ListedValue::Entries(count) => node.directory.inodes = count.max(1),
         ListedValue::Pin(pin) => node.pinned = pin.or(node.pinned),
         ListedValue::Policy(policy) => node.directory.policy = policy.or(node.directory.policy),

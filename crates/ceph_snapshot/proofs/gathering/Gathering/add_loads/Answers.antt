@@ -3,6 +3,7 @@ use Rattle.ceph_dumps.specs.declared.loads.FragmentHeat.{FragmentHeat}
 use Rattle.ceph_snapshot.specs.Authority.{is_user_path}
 use Rattle.ceph_snapshot.specs.Sightings.{PathHeat, of_fragment, seen_in}
 use Rattle.ceph_snapshot.proofs.Numbers.{seen_more}
+use Rattle.ceph_snapshot.proofs.Told.{still_both}
 use Rattle.ceph_snapshot.proofs.gathering.Gathering.add_loads.Goals as goal
 
 pub loop-fragment-preserved : goal.loop-fragment-preserved
@@ -13,7 +14,11 @@ loop-fragment-preserved c =
     let before : List PathHeat = seen_in c.args.rank (take at loads) in
     let more : List PathHeat = cond (is_user_path one.path.items) (of_fragment c.args.rank one ∷ []) [] in
     let inside : at < length loads = omega (arith, c.loop-fragment-test.true) in
-    c.in_ok-see.ensures
-    ∙ (ap (λ (hs : List PathHeat). hs ++ more) c.loop-fragment.invariant
-    ∙ (append_assoc c.args.self.now.tree.seen before more
-    ∙ ap (λ (hs : List PathHeat). c.args.self.now.tree.seen ++ hs) (sym (seen_more c.args.rank loads at one inside (sym c.fragment-item.is)))))
+    record {
+      seen = c.in_ok-see.ensures.seen
+          ∙ (ap (λ (hs : List PathHeat). hs ++ more) c.loop-fragment.invariant.seen
+          ∙ (append_assoc c.args.self.now.tree.seen before more
+          ∙ ap (λ (hs : List PathHeat). c.args.self.now.tree.seen ++ hs) (sym (seen_more c.args.rank loads at one inside (sym c.fragment-item.is)))));
+      told = still_both c.args.self.now.tree.nodes c.loop-fragment.self.tree.nodes c.see.new.self.nodes c.loop-fragment.invariant.told c.in_ok-see.ensures.kept;
+      listed = c.loop-fragment.invariant.listed;
+    }

@@ -1,6 +1,11 @@
 use Rattle.std.proofs.Common.{◌≡◌, ◌++◌, take}
+use Rattle.ceph_snapshot.specs.Facts.{StillTold}
 use Rattle.ceph_snapshot.specs.Sightings.{seen_in}
 use Rattle.ceph_snapshot.proofs.gathering.Gathering.add_loads.Given as goal
 
 abbrev pub invariant-loop-fragment : goal.invariant-loop-fragment
-invariant-loop-fragment l = l.self.tree.seen ≡ l.fn.self.tree.seen ++ seen_in l.rank (take l.fragment-index l.loads)
+invariant-loop-fragment l = record {
+  seen : l.self.tree.seen ≡ l.fn.self.tree.seen ++ seen_in l.rank (take l.fragment-index l.loads);
+  told : StillTold l.fn.self.tree.nodes l.self.tree.nodes;
+  listed : l.self.is_listed ≡ l.fn.self.is_listed;
+}

@@ -1,4 +1,5 @@
 use Rattle.std.proofs.Common.{◌≡◌, take}
+use Rattle.ceph_snapshot.specs.Facts.{StillTold}
 use Rattle.ceph_snapshot.specs.Sightings.{IsParentOf}
 use Rattle.ceph_snapshot.proofs.tree.Tree.number.Given as goal
 
@@ -6,5 +7,6 @@ use Rattle.ceph_snapshot.proofs.tree.Tree.number.Given as goal
 abbrev pub invariant-loop-end : goal.invariant-loop-end
 invariant-loop-end l = record {
   seen : l.self.seen ≡ l.fn.self.seen;
+  kept : StillTold l.fn.self.nodes l.self.nodes;
   above : IsParentOf l.self.nodes (take l.end l.path) l.number;
 }

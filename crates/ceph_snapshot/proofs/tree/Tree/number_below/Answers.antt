@@ -6,6 +6,8 @@ use Rattle.ceph_snapshot.specs.declared.tree.Node.{Node}
 use Rattle.ceph_snapshot.specs.Names.{path_number}
 use Rattle.ceph_snapshot.specs.Sightings.{Account, IsNumberOf, IsNumbered, IsParentOf, TreeData, account_of, with_path}
 use Rattle.ceph_snapshot.proofs.Numbers.{at_number, numbered_more, seen_same, account_more}
+use Rattle.ceph_snapshot.specs.Facts.{StillTold}
+use Rattle.ceph_snapshot.proofs.Told.{still_more}
 use Rattle.ceph_snapshot.proofs.tree.Tree.number_below.Goals as goal
 
 pub returns-in-Some-clause-path : goal.returns-in-Some-clause-path
@@ -48,3 +50,14 @@ returns-clause-path c =
     let put : path_number c.insert.new.self path ≡ cond (bytes_eq c.in_ok-from_slice-2.field-0.items path) (Some c.in-Ok.number) (path_number t.names path) = c.in_ok-insert.ensures.put path in
     at_number c.insert.new.self c.push_reserved.new.self.items t.sightings.items path c.in-Ok.number (invariant_of-self-2 c)
     (put ∙ cond-true (bytes_eq c.in_ok-from_slice-2.field-0.items path) (Some c.in-Ok.number) (path_number t.names path) ((bytes_eq-Decides c.in_ok-from_slice-2.field-0.items path).1 c.in_ok-from_slice-2.ensures.items))
+
+pub returns-clause-kept : goal.returns-clause-kept
+returns-clause-kept c =
+    let t = c.self.inside in
+    let node : Node = c.unknown-node.result in
+    let path : List ℕ = c.args.path.now in
+    let items : c.push_reserved.new.self.items ≡ t.nodes.items ++ node ∷ [] = c.push_reserved.ensures.items ∙ ap (λ (ns : List Node). ns ++ node ∷ []) c.reserve.ensures.items in
+    let fresh : path_number t.names path ≡ None = search rules in
+    let is : node.directory.path.items ≡ path = ap (λ (t : Account). t.0) c.unknown-node.ensures.account ∙ c.in_ok-from_slice.ensures.items in
+    subst (λ (ns : List Node). StillTold ns c.push_reserved.new.self.items) (ap (λ (v : TreeData). v.nodes) c.self.view_is)
+    (subst (StillTold t.nodes.items) (sym items) (still_more t.names t.nodes.items node path t.sightings.items fresh is c.unknown-node.ensures.told c.self.invariant))
