@@ -8,3 +8,4 @@ pub mod Parents
 pub mod Placing
 pub mod Sighted
 pub mod Told
+pub mod Tops

@@ -8,7 +8,7 @@ use Rattle.ceph_snapshot.specs.declared.directory.Directory.{Directory}
 use Rattle.ceph_snapshot.specs.declared.tree.Node.{Node}
 use Rattle.ceph_snapshot.specs.Authority.{LieAsClaimed, is_torn_above, placed_node, rank_above}
 use Rattle.ceph_snapshot.specs.Holding.{is_marked}
-use Rattle.ceph_snapshot.specs.Gathered.{PathPin, WhosePin, path_pin, path_pin_at, whose_pin, whose_pin_at}
+use Rattle.ceph_snapshot.specs.Gathered.{PathPin, WhosePin, listed_at, listed_of, path_pin, path_pin_at, whose_pin, whose_pin_at}
 use Rattle.ceph_snapshot.specs.Policies.{kept_where}
 use Rattle.ceph_snapshot.specs.Sightings.{account_of, account_at}
 
@@ -37,6 +37,10 @@ pin_placed nodes placed are i =
 pub account_placed : (nodes placed : List Node) → LieAsClaimed nodes placed → (i : ℕ) → account_at placed i ≡ account_at nodes i
 account_placed nodes placed are i =
     still (λ (n : Node). account_of n.directory) (λ k. placed_node (rank_above nodes placed k) (is_torn_above nodes placed k)) (λ k n. refl) nodes placed are.size are.at i
+
+pub listed_placed : (nodes placed : List Node) → LieAsClaimed nodes placed → (i : ℕ) → listed_at placed i ≡ listed_at nodes i
+listed_placed nodes placed are i =
+    still (λ (n : Node). listed_of n.directory) (λ k. placed_node (rank_above nodes placed k) (is_torn_above nodes placed k)) (λ k n. refl) nodes placed are.size are.at i
 
 pub parent_placed : (nodes placed : List Node) → LieAsClaimed nodes placed → (i : ℕ)
     → option_map (λ (n : Node). n.directory.parent) (slice_get placed i) ≡ option_map (λ (n : Node). n.directory.parent) (slice_get nodes i)

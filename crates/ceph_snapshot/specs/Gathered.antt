@@ -1,10 +1,12 @@
 -- What is made of what the dumps say of a directory.
-use Rattle.std.specs.Prelude.{◌==◌, ◌&&◌, ◌+◌, ℕ, Bool, false, List, Option, Some, None, min, not, nat_lt, slice_get}
-use Rattle.std.specs.Prelude.{if◌then◌else◌}
-use Rattle.std.specs.List.{fold}
+use Rattle.std.specs.Prelude.{◌==◌, ◌&&◌, ◌+◌, ℕ, Bool, false, true, List, Option, Some, None, min, not, nat_lt}
+use Rattle.std.specs.Prelude.{if◌then◌else◌, slice_get}
+use Rattle.std.specs.List.{fold, list_any}
 use Rattle.std.specs.Option.{option_map, option_or}
 use Rattle.std.specs.Str.{bytes_eq}
 use Rattle.mds_types.specs.RankSet.{has_rank}
+use Rattle.ceph_dumps.specs.declared.listing.EphemeralPin.{EphemeralPin}
+use Rattle.ceph_dumps.specs.declared.listing.EphemeralPin.TheVariants.{Unknown}
 use Rattle.ceph_dumps.specs.declared.own_list.OwnPin.{OwnPin}
 use Rattle.ceph_snapshot.specs.declared.directory.Directory.{Directory}
 use Rattle.ceph_snapshot.specs.declared.tree.Node.{Node}
@@ -77,3 +79,22 @@ with_owner own ranks at = (
     ),
   ),
 )
+
+-- how many entries a directory has, and its policy
+abbrev pub Listed : Type 0
+Listed = ℕ × Option EphemeralPin
+
+abbrev pub listed_of : Directory → Listed
+listed_of d = (d.inodes, d.policy)
+
+abbrev pub listed_at : List Node → ℕ → Option Listed
+listed_at nodes i = option_map (λ (n : Node). listed_of n.directory) (slice_get nodes i)
+
+-- one that Ceph's own pins may be below has a policy that isn't known, if none is known
+abbrev pub with_unknown : Bool → Listed → Listed
+with_unknown false at = at
+with_unknown true at = (at.0, option_or at.1 (Some Unknown))
+
+-- where no listing was read, that is so of each of these directories
+abbrev pub is_unknown_at : Bool → List ℕ → ℕ → Bool
+is_unknown_at listed tops i = not listed && list_any (λ top. top == i) tops

@@ -4,7 +4,7 @@ ghost use Rattle.std.specs.Prelude.{ℕ, None, Some, length, true, IfOk, OnOk, s
 ghost use Rattle.std.specs.Option.{option_map};
 ghost use Rattle.ceph_dumps.specs.declared.listing.EphemeralPin.TheVariants.{Random};
 ghost use Rattle.ceph_snapshot.specs.Holding.{AreParentsFirst, is_marked};
-ghost use Rattle.ceph_snapshot.specs.Gathered.{whose_pin_at};
+ghost use Rattle.ceph_snapshot.specs.Gathered.{listed_of, whose_pin_at};
 ghost use Rattle.ceph_snapshot.specs.Policies.{KeepUnpinnable, HasBeaten, kept_where};
 ghost use Rattle.ceph_snapshot.specs.Sightings.{position_of, account_of};
 
@@ -68,6 +68,8 @@ pub(crate) fn keep(alloc: Global, directories: &mut Vec<Directory>) -> Result<()
         ≡ option_map account_of (slice_get directories.old.items i)) }
     ensures place { OnOk result ((i : ℕ) → option_map position_of (slice_get directories.new.items i)
         ≡ option_map position_of (slice_get directories.old.items i)) }
+    ensures listed { OnOk result ((i : ℕ) → option_map listed_of (slice_get directories.new.items i)
+        ≡ option_map listed_of (slice_get directories.old.items i)) }
     ensures kept { OnOk result (AreParentsFirst directories.new.items → KeepUnpinnable directories.new.items) }
 {
     let above = above_random(alloc, directories.as_slice())?;

@@ -12,6 +12,7 @@ ghost use Rattle.ceph_snapshot.specs.Authority.{IsUnclaimed, LieAsClaimed, PathT
 ghost use Rattle.ceph_snapshot.specs.Authority.{node_path_at, placed_node, lies_at};
 ghost use Rattle.ceph_snapshot.specs.Gathered.{foreign_pin, idle_pin, listed_rank, our_pin, path_pin};
 ghost use Rattle.ceph_snapshot.specs.Gathered.{path_pin_at, whose_pin, whose_pin_at, with_owner};
+ghost use Rattle.ceph_snapshot.specs.Gathered.{is_unknown_at, listed_at, listed_of, with_unknown};
 ghost use Rattle.ceph_snapshot.specs.Shown.{shown_path};
 ghost use Rattle.ceph_snapshot.specs.Snapshots.{IsSnapshot};
 ghost use Rattle.ceph_snapshot.specs.Sightings.{AreBelowParents, AreCold, HasSeen, LieAt, account_at, account_by};
@@ -81,6 +82,7 @@ fn sight(node: &mut Node, seen: Sighting) -> u64
     ensures account { account_of node.new.directory ≡ account_with true seen node.old.directory }
     ensures place { position_of node.new.directory ≡ position_of node.old.directory }
     ensures pinned { path_pin node.new ≡ path_pin node.old }
+    ensures listed { listed_of node.new.directory ≡ listed_of node.old.directory }
 {
     let directory = &mut node.directory;
     directory.inode = seen.inode.or(directory.inode);
@@ -158,7 +160,7 @@ fn finished(node: Node, own: Option<u64>, samples: u64, ranks: RankSet) -> Direc
     ensures pin { result.pin ≡ foreign_pin node.pinned own ranks }
     ensures idle { result.idle ≡ idle_pin node.pinned own ranks }
     ensures earlier { result.earlier ≡ our_pin node.pinned own }
-    ensures policy { result.policy ≡ node.directory.policy }
+    ensures listed { listed_of result ≡ listed_of node.directory }
 {
     let Pins { pin, idle, earlier } = pins_of(node.pinned, own, ranks);
     let mut directory = node.directory;
@@ -211,19 +213,32 @@ fn confirm(alloc: Global, nodes: &[Node], hearsay: &[Hearsay]) -> Result<(), Sna
     Ok(())
 }
 
+/// Gives a directory a policy that isn't known, if none is known of it.
+fn set_unknown(nodes: &mut Vec<Node>, top: u32)
+    ensures pinned { (i : ℕ) → path_pin_at nodes.new.items i ≡ path_pin_at nodes.old.items i }
+    ensures account { (i : ℕ) → account_at nodes.new.items i ≡ account_at nodes.old.items i }
+    ensures place { (i : ℕ) → position_at nodes.new.items i ≡ position_at nodes.old.items i }
+    ensures listed { (i : ℕ) → listed_at nodes.new.items i
+        ≡ option_map (with_unknown (top == i)) (listed_at nodes.old.items i) }
+{
+    if let Some(node) = nodes.get_mut(top as usize) {
+        node.directory.policy = node.directory.policy.or(Some(EphemeralPin::Unknown));
+    }
+}
+
 /// Gives each of these directories a policy that isn't known, if none is known of it, unless all were listed.
 fn hold_tops(nodes: &mut Vec<Node>, tops: &[u32], is_listed: bool)
     ensures pinned { (i : ℕ) → path_pin_at nodes.new.items i ≡ path_pin_at nodes.old.items i }
     ensures account { (i : ℕ) → account_at nodes.new.items i ≡ account_at nodes.old.items i }
     ensures place { (i : ℕ) → position_at nodes.new.items i ≡ position_at nodes.old.items i }
+    ensures listed { (i : ℕ) → listed_at nodes.new.items i
+        ≡ option_map (with_unknown (is_unknown_at is_listed tops.now i)) (listed_at nodes.old.items i) }
 {
     if is_listed {
         return;
     }
     for top in tops {
-        if let Some(node) = nodes.get_mut(*top as usize) {
-            node.directory.policy = node.directory.policy.or(Some(EphemeralPin::Unknown));
-        }
+        set_unknown(nodes, *top);
     }
 }
 
@@ -254,6 +269,8 @@ fn all_finished(
         ≡ map (λ n. mean_account samples (account_of n.directory)) nodes.items) }
     ensures place { IfOk result (λ directories. map position_of directories.items
         ≡ map (λ n. position_of n.directory) nodes.items) }
+    ensures listed { IfOk result (λ directories. map listed_of directories.items
+        ≡ map (λ n. listed_of n.directory) nodes.items) }
 {
     let listed = listed_ranks(alloc, own)?;
     let mut directories = Vec::with_capacity(alloc, nodes.len())?;
@@ -286,6 +303,10 @@ impl Gathering {
             × IsUnclaimed placed self.hearsay.items path by said }
         ensures owner { IfOk result (λ snapshot. (i : ℕ) → whose_pin_at snapshot.directories.items i
             ≡ option_map (with_owner own.now ranks) (path_pin_at self.tree.nodes i)) }
+        ensures listed { IfOk result (λ snapshot. (i : ℕ)
+            → option_map listed_of (slice_get snapshot.directories.items i)
+            ≡ option_map (with_unknown (is_unknown_at self.is_listed self.tops.items i))
+            (listed_at self.tree.nodes i)) }
     {
         let Gathering {
             alloc,
@@ -315,6 +336,7 @@ fn see(nodes: &mut Vec<Node>, seen: Sighting) -> u64
     ensures account { (i : ℕ) → account_at nodes.new.items i
         ≡ option_map (λ n. account_with (seen.directory == i) seen n.directory) (slice_get nodes.old.items i) }
     ensures place { (i : ℕ) → position_at nodes.new.items i ≡ position_at nodes.old.items i }
+    ensures listed { (i : ℕ) → listed_at nodes.new.items i ≡ listed_at nodes.old.items i }
 {
     match nodes.get_mut(seen.directory as usize) {
         Some(node) => sight(node, seen),
@@ -336,6 +358,7 @@ fn see_all(
     ensures account { OnOk result ((i : ℕ) → account_at nodes.new.items i
         ≡ option_map (λ n. account_by i sightings.now n.directory) (slice_get nodes.old.items i)) }
     ensures place { (i : ℕ) → position_at nodes.new.items i ≡ position_at nodes.old.items i }
+    ensures listed { (i : ℕ) → listed_at nodes.new.items i ≡ listed_at nodes.old.items i }
 {
     let mut spread = vec![in alloc; 0u64; usize::from(RANK_LIMIT)]?;
     for seen in sightings {

@@ -3,7 +3,7 @@ use Rattle.std.specs.HashMap.{get_by}
 use Rattle.std.specs.Str.{bytes_eq}
 use Rattle.ceph_snapshot.specs.declared.directory.Directory.{Directory}
 use Rattle.ceph_snapshot.specs.declared.tree.Node.{Node}
-use Rattle.ceph_snapshot.specs.Gathered.{WhosePin, listed_rank, path_pin, whose_pin, with_owner}
+use Rattle.ceph_snapshot.specs.Gathered.{Listed, WhosePin, listed_of, listed_rank, path_pin, whose_pin, with_owner}
 use Rattle.ceph_snapshot.specs.Sightings.{Position, Account, mean_account, position_of, account_of}
 use Rattle.ceph_snapshot.proofs.Owners.{mapped_more}
 use Rattle.ceph_snapshot.proofs.snapshot.all_finished.Goals as goal
@@ -25,4 +25,5 @@ loop-node-preserved c =
       owner = more WhosePin whose_pin (λ (n : Node). with_owner c.args.own.now c.args.ranks (path_pin n)) c.loop-node.invariant.owner whose;
       account = more Account account_of (λ (n : Node). mean_account c.args.samples (account_of n.directory)) c.loop-node.invariant.account c.finished.ensures.account;
       place = more Position position_of (λ (n : Node). position_of n.directory) c.loop-node.invariant.place places;
+      listed = more Listed listed_of (λ (n : Node). listed_of n.directory) c.loop-node.invariant.listed c.finished.ensures.listed;
     }

@@ -11,6 +11,7 @@ loop-seen-init c = record {
   size = search rules;
   pinned = λ i. refl;
   place = λ i. refl;
+  listed = λ i. refl;
   account = account_first c.args.nodes.now.items c.requires.cold;
 }
 

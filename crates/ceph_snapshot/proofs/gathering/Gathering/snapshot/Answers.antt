@@ -1,13 +1,13 @@
-use Rattle.std.proofs.Common.{◌≡◌, ◌∙◌, All, List, Some, true, ap, get_or, rules, slice_get, subst, sym}
+use Rattle.std.proofs.Common.{◌≡◌, ◌∙◌, ℕ, All, List, Some, true, ap, get_or, rules, slice_get, subst, sym}
 use Rattle.std.specs.Option.{option_map}
 use Rattle.std.proofs.lemmas.Option.{slice_get-get_or}
 use Rattle.ceph_snapshot.specs.declared.directory.Directory.{Directory}
 use Rattle.ceph_snapshot.specs.declared.tree.Node.{Node}
 use Rattle.ceph_snapshot.specs.declared.tree.Sighting.{Sighting}
 use Rattle.ceph_snapshot.specs.Authority.{LieAsClaimed, is_true_of}
-use Rattle.ceph_snapshot.specs.Gathered.{with_owner}
+use Rattle.ceph_snapshot.specs.Gathered.{is_unknown_at, listed_at, listed_of, with_owner, with_unknown}
 use Rattle.ceph_snapshot.specs.Sightings.{LieAt, mean_account, position_of, account_of, account_at, account_by}
-use Rattle.ceph_snapshot.proofs.Owners.{owner_from_map, pin_placed, account_placed}
+use Rattle.ceph_snapshot.proofs.Owners.{listed_placed, owner_from_map, pin_placed, account_placed}
 use Rattle.ceph_snapshot.proofs.Parents.{snapshot_of}
 use Rattle.ceph_snapshot.proofs.Sighted.{at_map, seen_at}
 use Rattle.ceph_snapshot.proofs.gathering.Gathering.snapshot.Goals as goal
@@ -57,6 +57,17 @@ returns-clause-owner c = λ i.
     ∙ (owner_from_map c.in_ok-directories.directories.items c.see_all.new.nodes.items (with_owner c.args.own.now c.args.ranks) c.in_ok-directories.ensures.owner i
     ∙ ap (option_map (with_owner c.args.own.now c.args.ranks)) (c.see_all.ensures.pinned i
     ∙ (c.hold_tops.ensures.pinned i ∙ pin_placed nodes c.place_all.new.nodes.items claimed i)))
+
+pub returns-clause-listed : goal.returns-clause-listed
+returns-clause-listed c = λ i.
+    let nodes : List Node = c.args.self.tree.nodes in
+    let placed : List Node = c.place_all.new.nodes.items in
+    let claimed : LieAsClaimed nodes placed = subst (λ (ns : List Node). LieAsClaimed ns placed) c.into_parts-nodes.ensures.nodes c.place_all.ensures in
+    let held : listed_at c.hold_tops.new.nodes.items i ≡ option_map (with_unknown (is_unknown_at c.args.self.is_listed c.args.self.tops.items i)) (listed_at placed i) =
+    subst (λ (tops : List ℕ). listed_at c.hold_tops.new.nodes.items i ≡ option_map (with_unknown (is_unknown_at c.args.self.is_listed tops i)) (listed_at placed i)) c.as_slice-3.ensures.value (c.hold_tops.ensures.listed i) in
+    c.in_ok-keep.ensures.listed i
+    ∙ (at_map listed_of (λ (n : Node). listed_of n.directory) c.in_ok-directories.directories.items c.see_all.new.nodes.items c.in_ok-directories.ensures.listed i
+    ∙ (c.see_all.ensures.listed i ∙ (held ∙ ap (option_map (with_unknown (is_unknown_at c.args.self.is_listed c.args.self.tops.items i))) (listed_placed nodes placed claimed i))))
 
 pub returns-clause-snapshot : goal.returns-clause-snapshot
 unfolding returns-clause-authority
