@@ -2,5 +2,9 @@ pub mod Balancer
 pub mod Cluster
 pub mod Complete
 pub mod Inode
+pub mod Inodes
+pub mod Listing
+pub mod OneForOne
 pub mod OwnList
+pub mod Paths
 pub mod Told

@@ -40,6 +40,15 @@ pub enum DumpError {
     /// This line of a listing has an attribute that the collector doesn't ask for, or a value that is no number.
     #[error("line {0}: expected a number of ceph.dir.entries or of a ceph.dir.pin")]
     Value(usize),
+    /// The name of the directory that this line of a listing has a value of isn't plain.
+    #[error("line {0}: the path has an empty, . or .. component")]
+    Component(usize),
+    /// The path of this entry of a dump isn't plain.
+    #[error("entry {0}: the path has an empty, . or .. component")]
+    Entry(usize),
+    /// This record of a list of inode numbers is no number and path, or the path has an empty, `.` or `..` component.
+    #[error("record {0}: expected `NUMBER PATH` and a NUL, with no empty, . or .. component")]
+    Record(usize),
     /// This line of a list of pins is no rank and path.
     #[error("line {0}: expected `RANK /PATH`")]
     Own(usize),

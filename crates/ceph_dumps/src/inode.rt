@@ -25,7 +25,7 @@ fn before_dot(name: &str) -> &str
 }
 
 /// The inode number of the directory that a fragment is of. Where there are several, a name has bits after a dot.
-pub(crate) fn inode_of(fragment: &str) -> Option<u64>
+pub fn inode_of(fragment: &str) -> Option<u64>
     ensures { result ≡ inode_of fragment.now }
 {
     hex_number(before_dot(fragment).strip_prefix("0x")?)

@@ -2,13 +2,18 @@
 //!
 //! A directory has a line `# file: NAME`, a line `ATTRIBUTE="VALUE"` and a blank one. In a name `\134`, `\012` and
 //! `\015` are a backslash, a newline and a return, and all else is raw. The root is
-//! `.`, and other names have no slash in front.
+//! `.`, and other names have no slash in front; from attr 2.6 on they begin with `./`.
 
-ghost use Rattle.std.specs.Prelude.{◌≡◌, ◌≤◌, ◌++◌, IfSome, OnOk, length};
+ghost use Rattle.std.specs.Prelude.{◌≡◌, ◌≢◌, ◌≤◌, ◌++◌, ℕ, List, None, Some, codes, length, if◌then◌else◌};
+ghost use Rattle.std.specs.Prelude.{IfOk, IfSome, IsOk, IsSome, MatchOption, OnOk};
 ghost use Rattle.std.specs.Str.Parse.{digits_value, without_leading_plus};
+ghost use Rattle.ceph_dumps.specs.Listing.{AreValuesListed, IsListedAs, IsPinOf, IsValueOf, is_zero, listed_path};
+ghost use Rattle.ceph_dumps.specs.Listing.{NamedLine, line_below, name_after};
+ghost use Rattle.ceph_dumps.specs.OneForOne.{AreOneForOne};
 ghost use Rattle.ceph_dumps.specs.OwnList.{named_bytes, octal_byte};
 
 use crate::dump_error::DumpError;
+use crate::paths::is_clean_path;
 use std::alloc::{AllocError, Global};
 
 /// How Ceph itself pins what is below a directory (`ceph.dir.pin.distributed`, `ceph.dir.pin.random`).
@@ -31,6 +36,8 @@ pub enum ListedValue {
     Pin(Option<u64>),
     /// Its own policy for what is below it, if this one is set.
     Policy(Option<EphemeralPin>),
+    /// Its inode number. It isn't listed with the others, but in a file of its own.
+    Inode(u64),
 }
 
 /// What a listing says of a directory.
@@ -69,11 +76,13 @@ pub(crate) fn push_name(path: &mut Vec<u8>, name: &[u8]) -> Result<(), AllocErro
 }
 
 /// The path of a listed name.
-fn path_of(alloc: Global, name: &[u8]) -> Result<Vec<u8>, AllocError> {
+fn path_of(alloc: Global, name: &[u8]) -> Result<Vec<u8>, AllocError>
+    ensures { IfOk result (λ path. path.items ≡ listed_path name.now) }
+{
     let mut path = Vec::with_capacity(alloc, name.len() + 1)?;
     if name != b".".as_slice() {
         path.push(b'/')?;
-        push_name(&mut path, name)?;
+        push_name(&mut path, name.strip_prefix(b"./").unwrap_or(name))?;
     }
     Ok(path)
 }
@@ -89,35 +98,58 @@ pub(crate) fn number_of(digits: &[u8]) -> Option<u64>
 }
 
 /// The policy that a number sets: none if the number is zero, as `0` and `0.000000` are.
-fn policy_of(number: &[u8], policy: EphemeralPin) -> Option<ListedValue> {
+fn policy_of(number: &[u8], policy: EphemeralPin) -> Option<ListedValue>
+    ensures { IfSome result (λ value. value
+        ≡ ListedValue.Policy (if is_zero number.now then None else Some policy)) }
+{
     if !matches!(number, [b'0'..=b'9', ..]) {
         return None;
     }
-    let is_zero = number.iter().all(|byte| matches!(*byte, b'0' | b'.'));
+    let is_zero = number.iter().all(|byte| *byte == b'0' || *byte == b'.');
     Some(ListedValue::Policy(if is_zero { None } else { Some(policy) }))
 }
 
 /// The pin that a number sets: none if it is negative.
-fn pin_of(number: &[u8]) -> Option<ListedValue> {
+fn pin_of(number: &[u8]) -> Option<ListedValue>
+    ensures { IfSome result (IsPinOf number.now) }
+{
     if number.starts_with(b"-") {
         return Some(ListedValue::Pin(None));
     }
     Some(ListedValue::Pin(Some(number_of(number)?)))
 }
 
+/// What comes after this front of a text, if it begins with that.
+pub(crate) fn after<'a>(text: &'a [u8], front: &[u8]) -> Option<&'a [u8]>
+    ensures { MatchOption result ((rest : List ℕ) → text.entry.now ≢ front.now ++ rest)
+        (λ rest. text.entry.now ≡ front.now ++ rest.now) }
+{
+    text.strip_prefix(front)
+}
+
+/// What comes before the quote at the end of a text, if it ends with one.
+fn unquoted(text: &[u8]) -> Option<&[u8]>
+    ensures { MatchOption result ((rest : List ℕ) → text.now ≢ rest ++ codes "\"")
+        (λ rest. text.now ≡ rest.now ++ codes "\"") }
+{
+    text.strip_suffix(b"\"")
+}
+
 /// The value that an attribute's line says.
-fn value_of(line: &[u8]) -> Option<ListedValue> {
-    let value = line.strip_suffix(b"\"")?;
-    if let Some(number) = value.strip_prefix(b"ceph.dir.entries=\"") {
+fn value_of(line: &[u8]) -> Option<ListedValue>
+    ensures { IfSome result (IsValueOf line.now) }
+{
+    let value = unquoted(line)?;
+    if let Some(number) = after(value, b"ceph.dir.entries=\"") {
         return Some(ListedValue::Entries(number_of(number)?));
     }
-    if let Some(number) = value.strip_prefix(b"ceph.dir.pin.distributed=\"") {
+    if let Some(number) = after(value, b"ceph.dir.pin.distributed=\"") {
         return policy_of(number, EphemeralPin::Distributed);
     }
-    if let Some(number) = value.strip_prefix(b"ceph.dir.pin.random=\"") {
+    if let Some(number) = after(value, b"ceph.dir.pin.random=\"") {
         return policy_of(number, EphemeralPin::Random);
     }
-    pin_of(value.strip_prefix(b"ceph.dir.pin=\"")?)
+    pin_of(after(value, b"ceph.dir.pin=\"")?)
 }
 
 /// What a line of this number says of the directory that was named before.
@@ -126,7 +158,10 @@ fn listed(
     name: Option<&[u8]>,
     line: &[u8],
     number: usize,
-) -> Result<ListedDir, DumpError> {
+) -> Result<ListedDir, DumpError>
+    ensures is { IfOk result (λ dir. IfSome name.entry (λ name. IsListedAs (name.now, line.now) dir)) }
+    ensures named { IsOk result → IsSome name.entry }
+{
     let Some(name) = name else {
         return Err(DumpError::Listing(number));
     };
@@ -134,25 +169,45 @@ fn listed(
         return Err(DumpError::Value(number));
     };
     let path = path_of(alloc, name)?;
+    if !is_clean_path(path.as_slice()) {
+        return Err(DumpError::Component(number));
+    }
     Ok(ListedDir { path, value })
 }
 
-/// Adds what a listing says, in its order.
-fn add_listed(alloc: Global, found: &mut Vec<ListedDir>, bytes: &[u8]) -> Result<(), DumpError> {
-    let mut name = None;
-    for (at, line) in bytes.split(|byte| *byte == b'\n').enumerate() {
-        if let Some(here) = line.strip_prefix(b"# file: ") {
-            name = Some(here);
-        } else if !line.is_empty() && line != b"--".as_slice() {
-            found.push(listed(alloc, name.take(), line, at + 1)?)?;
-        }
+/// Adds what the line of this number says, where a directory may have been named for it. Gives the one that is named
+/// for the next line.
+fn add_line<'a>(
+    alloc: Global,
+    found: &mut Vec<ListedDir>,
+    name: Option<&'a [u8]>,
+    line: &'a [u8],
+    number: usize,
+) -> Result<Option<&'a [u8]>, DumpError>
+    ensures lines { (above : List ℕ) (lines : List NamedLine) → IfSome name.entry (λ here. here.now ≡ above)
+        → AreOneForOne IsListedAs lines found.old.items
+        → OnOk result (AreOneForOne IsListedAs (lines ++ line_below above line.entry.now) found.new.items) }
+    ensures name { (above : List ℕ) → IfSome name.entry (λ here. here.now ≡ above)
+        → IfOk result (λ next. IfSome next (λ here. here.now ≡ name_after above line.entry.now)) }
+{
+    if let Some(here) = after(line, b"# file: ") {
+        return Ok(Some(here));
     }
-    Ok(())
+    if line.is_empty() || line == b"--".as_slice() {
+        return Ok(name);
+    }
+    found.push(listed(alloc, name, line, number)?)?;
+    Ok(None)
 }
 
 /// What a listing says, in its order.
-pub fn read_listing(alloc: Global, bytes: &[u8]) -> Result<Vec<ListedDir>, DumpError> {
+pub fn read_listing(alloc: Global, bytes: &[u8]) -> Result<Vec<ListedDir>, DumpError>
+    ensures { IfOk result (λ found. AreValuesListed bytes.now found.items) }
+{
     let mut found = Vec::new(alloc);
-    add_listed(alloc, &mut found, bytes)?;
+    let mut name = None;
+    for (at, line) in bytes.split(|byte| *byte == b'\n').enumerate() {
+        name = add_line(alloc, &mut found, name, line, at + 1)?;
+    }
     Ok(found)
 }

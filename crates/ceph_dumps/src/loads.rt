@@ -1,11 +1,13 @@
 //! Heat of directory fragments: what a rank answers to `dump loads`.
-ghost use Rattle.std.specs.Prelude.{◌*◌, ◌≤◌, All, IfOk};
+ghost use Rattle.std.specs.Prelude.{◌≡◌, ◌*◌, ◌≤◌, All, None, true, IfOk};
+ghost use Rattle.ceph_dumps.specs.Paths.{is_clean_path};
 ghost use Rattle.mds_types.specs.declared.limits.TheConstants.{HEAT_LIMIT};
 
 use crate::dump_error::DumpError;
 use crate::inode::inode_of;
 use crate::json::read_json;
 use crate::members::{Member, Members, NESTED, Named, Objects, TEXT, fill, present, read_object};
+use crate::paths::is_clean_path;
 use json_text::narrowed;
 use mds_types::limits::HEAT_LIMIT;
 use serde::{DeserializeOwned, Deserializer, Format, Kind, Name};
@@ -13,10 +15,10 @@ use std::alloc::Global;
 use std::num::saturating_f64_to_u64;
 
 /// What Ceph's balancer makes of reads, writes, readdirs, fetches and stores.
-const WEIGHTS: [f64; 5] = [1.0, 2.0, 1.0, 2.0, 4.0];
+pub const WEIGHTS: &[u8] = &[1, 2, 1, 2, 4];
 
 /// How many writes, of a weight of 2 each, are in each of them.
-const WRITES: [f64; 5] = [0.0, 1.0, 0.0, 0.0, 2.0];
+pub const WRITES: &[u8] = &[0, 1, 0, 0, 2];
 
 /// The counters of a fragment: reads, writes, readdirs, fetches and stores.
 type Counters = Objects<Member<f64>>;
@@ -71,8 +73,8 @@ impl Members for Fragment {
     ) -> Result<FragmentHeat, F::Error> {
         let path = present(self.path.as_deref(), "path", from)?;
         let counters = present(self.counters.as_ref(), "pop_me", from)?;
-        let heat = heat_of(counters.0.0.as_slice(), &WEIGHTS);
-        let writes = heat_of(counters.0.0.as_slice(), &WRITES);
+        let heat = heat_of(counters.0.0.as_slice(), WEIGHTS);
+        let writes = heat_of(counters.0.0.as_slice(), WRITES);
         let inode = self.name.as_deref().and_then(inode_of);
         match narrowed(alloc, path.as_bytes()) {
             Ok(path) => Ok(FragmentHeat {
@@ -118,13 +120,13 @@ pub struct FragmentHeat {
     pub writes: u64,
 }
 
-/// The heat of five counters by these weights, in thousandths.
-fn heat_of(counters: &[Member<f64>], weights: &[f64]) -> u64 {
+/// The heat of five counters by these weights, to the nearest thousandth.
+fn heat_of(counters: &[Member<f64>], weights: &[u8]) -> u64 {
     let mut heat = 0.0;
     for (counter, weight) in counters.iter().zip(weights) {
-        heat += counter.0 * *weight;
+        heat += counter.0 * f64::from(*weight);
     }
-    saturating_f64_to_u64(heat * 1000.0)
+    saturating_f64_to_u64(heat * 1000.0 + 0.5)
 }
 
 /// Puts each heat that is past the limit at the limit, and lets no more of it come from writes than there is.
@@ -138,12 +140,28 @@ fn limit(fragments: &mut [FragmentHeat])
     }
 }
 
+/// The number, from 1 on, of the first fragment whose path has an empty, `.` or `..` component.
+fn odd_entry(fragments: &[FragmentHeat]) -> Option<usize>
+    ensures { result ≡ None → All (λ fragment. is_clean_path fragment.path.items ≡ true) fragments.now }
+{
+    for (at, fragment) in fragments.iter().enumerate() {
+        if !is_clean_path(fragment.path.as_slice()) {
+            return Some(at + 1);
+        }
+    }
+    None
+}
+
 /// The heat of each directory fragment that a rank names.
 pub fn read_loads(alloc: Global, bytes: &[u8]) -> Result<Vec<FragmentHeat>, DumpError>
+    ensures clean { IfOk result (λ found. All (λ fragment. is_clean_path fragment.path.items ≡ true) found.items) }
     ensures heat { IfOk result (λ found. All (λ fragment. fragment.heat ≤ HEAT_LIMIT) found.items) }
     ensures writes { IfOk result (λ found. All (λ fragment. 2 * fragment.writes ≤ fragment.heat) found.items) }
 {
     let Member(Objects(mut found)): Member<Objects<FragmentHeat>> = read_json(alloc, bytes)?;
     limit(&mut found);
-    Ok(found)
+    match odd_entry(&found) {
+        Some(number) => Err(DumpError::Entry(number)),
+        None => Ok(found),
+    }
 }

@@ -18,7 +18,7 @@ pub struct OwnPin {
 }
 
 /// How many digits a line begins with.
-fn digit_count(line: &[u8]) -> usize
+pub(crate) fn digit_count(line: &[u8]) -> usize
     ensures inside { result ≤ length line.now }
     ensures count { result ≡ digit_count line.now }
 {

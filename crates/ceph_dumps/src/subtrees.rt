@@ -1,8 +1,12 @@
 //! Authority: what a rank answers to `get subtrees`.
 
+ghost use Rattle.std.specs.Prelude.{◌≡◌, All, None, true, IfOk};
+ghost use Rattle.ceph_dumps.specs.Paths.{is_clean_path};
+
 use crate::dump_error::DumpError;
 use crate::json::read_json;
 use crate::members::{Members, NESTED, Objects, TEXT, TRUTH, WHOLE, fill, present, read_object};
+use crate::paths::is_clean_path;
 use json_text::narrowed;
 use serde::{DeserializeOwned, Deserializer, Format, Name};
 use std::alloc::Global;
@@ -207,8 +211,25 @@ impl DeserializeOwned for SubtreeRoot {
     }
 }
 
+/// The number, from 1 on, of the first root whose path has an empty, `.` or `..` component.
+fn odd_entry(roots: &[SubtreeRoot]) -> Option<usize>
+    ensures { result ≡ None → All (λ root. is_clean_path root.path.items ≡ true) roots.now }
+{
+    for (at, root) in roots.iter().enumerate() {
+        if !is_clean_path(root.path.as_slice()) {
+            return Some(at + 1);
+        }
+    }
+    None
+}
+
 /// The roots of the subtrees that a rank knows.
-pub fn read_subtrees(alloc: Global, bytes: &[u8]) -> Result<Vec<SubtreeRoot>, DumpError> {
+pub fn read_subtrees(alloc: Global, bytes: &[u8]) -> Result<Vec<SubtreeRoot>, DumpError>
+    ensures { IfOk result (λ roots. All (λ root. is_clean_path root.path.items ≡ true) roots.items) }
+{
     let Objects(roots): Objects<SubtreeRoot> = read_json(alloc, bytes)?;
-    Ok(roots)
+    match odd_entry(&roots) {
+        Some(number) => Err(DumpError::Entry(number)),
+        None => Ok(roots),
+    }
 }

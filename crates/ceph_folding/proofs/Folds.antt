@@ -54,6 +54,18 @@ inside_more homes home n size before here i l =
     omega (arith, at, before i inside))
     (cases_eq i n)
 
+-- one more mark, of which something holds as of those before it
+pub mark_more : (gone : List Bool) (one : Bool) (n : ℕ) (P : ℕ → Bool → Type 0) → length gone ≡ n → ((i : ℕ) → i < n → P i (is_marked gone i)) → P n one
+    → (i : ℕ) → i < n + 1 → P i (is_marked (gone ++ one ∷ []) i)
+mark_more gone one n P size before here i l =
+    ⊎_elim (λ (same : i ≡ n).
+    subst (λ (k : ℕ). P k (is_marked (gone ++ one ∷ []) k)) (sym same)
+    (subst (λ (m : Bool). P n m) (sym (get_or_push gone one false n size)) here))
+    (λ (other : i ≢ n).
+    let inside : i < n = omega (arith, other, l) in
+    subst (λ (m : Bool). P i m) (sym (get_or_append_left gone (one ∷ []) false i (omega (arith, inside, size)))) (before i inside))
+    (cases_eq i n)
+
 -- new places
 pub kept_more : (gone : ℕ → Bool) (n : ℕ) → gone n ≡ false → kept_below gone (n + 1) ≡ kept_below gone n + 1
 kept_more gone n kept = let next : n + 1 ≡ suc n = omega arith in rw (next, kept) refl
@@ -116,7 +128,7 @@ pub has_left : (ds closed left : List Directory) (gone : List Bool) (homes paren
     → ((i : ℕ) → i < length ds → slice_index homes i < length ds)
     → kept ≡ kept_below (is_marked gone) (length ds)
     → ((i : ℕ) → i < length ds → is_marked gone i ≡ false → slice_get closed (kept_below (is_marked gone) i) ≡ put_together ds parents heats writes inodes i)
-    → ((i : ℕ) → i < length ds → slice_index parents i ≡ kept_below (is_marked gone) (parent_at ds i))
+    → ((i : ℕ) → i < length ds → slice_index parents i ≡ kept_below (is_marked gone) (slice_index homes (parent_at ds i)))
     → ((i : ℕ) → i < length ds → slice_index heats i ≡ brought (heat_at ds) (slice_index homes) (length ds) i)
     → ((i : ℕ) → i < length ds → slice_index writes i ≡ brought (writes_at ds) (slice_index homes) (length ds) i)
     → ((i : ℕ) → i < length ds → slice_index inodes i ≡ brought (inodes_at ds) (slice_index homes) (length ds) i)
@@ -216,17 +228,17 @@ total f ds left gone home has here =
 pub same_heat : (ds left : List Directory) (gone : ℕ → Bool) (home : ℕ → ℕ) → HasLeft ds left gone home → all_heat left ≡ all_heat ds
 same_heat ds left gone home has = total (λ d. d.heat) ds left gone home has (λ i l keeps.
     let at = there ds i l in
-    ap (λ (o : Option Directory). option_map_or (λ (d : Directory). d.heat) o 0) (has.kept i l keeps ∙ ap (λ (o : Option Directory). option_map (with_amounts (kept_below gone (parent_at ds i)) (brought (heat_at ds) home (length ds) i) (brought (writes_at ds) home (length ds) i) (brought (inodes_at ds) home (length ds) i)) o) at.1))
+    ap (λ (o : Option Directory). option_map_or (λ (d : Directory). d.heat) o 0) (has.kept i l keeps ∙ ap (λ (o : Option Directory). option_map (with_amounts (kept_below gone (home (parent_at ds i))) (brought (heat_at ds) home (length ds) i) (brought (writes_at ds) home (length ds) i) (brought (inodes_at ds) home (length ds) i)) o) at.1))
 
 pub same_writes : (ds left : List Directory) (gone : ℕ → Bool) (home : ℕ → ℕ) → HasLeft ds left gone home → all_writes left ≡ all_writes ds
 same_writes ds left gone home has = total (λ d. d.writes) ds left gone home has (λ i l keeps.
     let at = there ds i l in
-    ap (λ (o : Option Directory). option_map_or (λ (d : Directory). d.writes) o 0) (has.kept i l keeps ∙ ap (λ (o : Option Directory). option_map (with_amounts (kept_below gone (parent_at ds i)) (brought (heat_at ds) home (length ds) i) (brought (writes_at ds) home (length ds) i) (brought (inodes_at ds) home (length ds) i)) o) at.1))
+    ap (λ (o : Option Directory). option_map_or (λ (d : Directory). d.writes) o 0) (has.kept i l keeps ∙ ap (λ (o : Option Directory). option_map (with_amounts (kept_below gone (home (parent_at ds i))) (brought (heat_at ds) home (length ds) i) (brought (writes_at ds) home (length ds) i) (brought (inodes_at ds) home (length ds) i)) o) at.1))
 
 pub same_inodes : (ds left : List Directory) (gone : ℕ → Bool) (home : ℕ → ℕ) → HasLeft ds left gone home → all_inodes left ≡ all_inodes ds
 same_inodes ds left gone home has = total (λ d. d.inodes) ds left gone home has (λ i l keeps.
     let at = there ds i l in
-    ap (λ (o : Option Directory). option_map_or (λ (d : Directory). d.inodes) o 0) (has.kept i l keeps ∙ ap (λ (o : Option Directory). option_map (with_amounts (kept_below gone (parent_at ds i)) (brought (heat_at ds) home (length ds) i) (brought (writes_at ds) home (length ds) i) (brought (inodes_at ds) home (length ds) i)) o) at.1))
+    ap (λ (o : Option Directory). option_map_or (λ (d : Directory). d.inodes) o 0) (has.kept i l keeps ∙ ap (λ (o : Option Directory). option_map (with_amounts (kept_below gone (home (parent_at ds i))) (brought (heat_at ds) home (length ds) i) (brought (writes_at ds) home (length ds) i) (brought (inodes_at ds) home (length ds) i)) o) at.1))
 
 -- what a directory has comes to its home
 pub brought-more : (amount home : ℕ → ℕ) (sums : List ℕ) (n at sum : ℕ) → length sums ≡ n → home at < n → sum ≡ slice_index sums (home at) + amount at

@@ -5,8 +5,9 @@ use Rattle.std.specs.List.{sum_by}
 use Rattle.std.specs.Option.{option_map}
 use Rattle.mds_types.specs.Sums.{count_below, sum_below}
 use Rattle.ceph_snapshot.specs.declared.directory.Directory.{Directory}
-use Rattle.ceph_snapshot.specs.Holding.{climb, earlier_at, heat_at, inodes_at, is_holding}
+use Rattle.ceph_snapshot.specs.Holding.{climb, earlier_at, heat_at, inodes_at, is_holding, is_kept_at}
 use Rattle.ceph_snapshot.specs.Holding.{is_spread_at, most_heat, now_at, parent_at, writes_at}
+use Rattle.ceph_snapshot.specs.Policies.{IsLeftKept}
 
 abbrev pub all_heat : List Directory → ℕ
 all_heat directories = sum_by (λ d. d.heat) directories
@@ -72,7 +73,8 @@ pub record IsHome (directories : List Directory) (gone : ℕ → Bool) (i home :
 abbrev pub brought : (ℕ → ℕ) → (ℕ → ℕ) → ℕ → ℕ → ℕ
 brought amount home n there = sum_below n (λ i. if home i == there then amount i else 0)
 
--- a kept directory with the heat, the writes and the inodes of all whose home it is, and its parent by its new place
+-- a kept directory with the heat, the writes and the inodes of all whose home it is; its parent is the home of the one
+-- that it had, by its new place
 abbrev pub with_amounts : ℕ → ℕ → ℕ → ℕ → Directory → Directory
 with_amounts parent heat writes inodes d =
     record d { parent = parent; heat = heat; writes = writes; inodes = inodes }
@@ -80,7 +82,7 @@ with_amounts parent heat writes inodes d =
 abbrev pub folded : List Directory → (ℕ → Bool) → (ℕ → ℕ) → ℕ → Option Directory
 folded directories gone home i =
     option_map (with_amounts
-    (kept_below gone (parent_at directories i))
+    (kept_below gone (home (parent_at directories i)))
     (brought (heat_at directories) home (length directories) i)
     (brought (writes_at directories) home (length directories) i)
     (brought (inodes_at directories) home (length directories) i))
@@ -104,6 +106,21 @@ pub record AreGone (directories : List Directory) (gone : ℕ → Bool) : Type 0
 abbrev pub IsFolded : List Directory → List Directory → Type 0
 IsFolded directories left =
     (gone : ℕ → Bool) × (home : ℕ → ℕ) × AreGone directories gone × HasLeft directories left gone home
+
+-- the plain directories are gone that are no units, and no others; what they had is at the nearest above them that is
+-- kept
+pub record AreUnitsLeft (directories left : List Directory) (is_unit : ℕ → Bool) : Type 0 where
+  pub gone : ℕ → Bool
+  pub home : ℕ → ℕ
+  pub plain : (i : ℕ) → i < length directories → gone i ≡ true → IsPlain directories i
+  pub other : (i : ℕ) → i < length directories → gone i ≡ true → is_unit i ≡ false
+  pub all : (i : ℕ) → i < length directories → IsPlain directories i → is_unit i ≡ false → gone i ≡ true
+  pub has : HasLeft directories left gone home
+
+-- each directory below the root that may not be pinned is among those that are left, still marked
+abbrev pub StillKept : List Directory → List Directory → Type 0
+StillKept directories left =
+    (i : ℕ) → 0 < i → i < length directories → is_kept_at directories i ≡ true → IsLeftKept directories left i
 
 -- directory i with another parent and these amounts
 abbrev pub put_together : List Directory → List ℕ → List ℕ → List ℕ → List ℕ → ℕ → Option Directory

@@ -22,7 +22,7 @@ struct Key {
 }
 
 /// Whether a directory may be folded.
-fn is_plain(directories: &[Directory], at: usize) -> bool
+pub(crate) fn is_plain(directories: &[Directory], at: usize) -> bool
     requires first { AreParentsFirst directories.now }
     requires inside { at < length directories.now }
     ensures { IsTrue result ↔ IsPlain directories.now at }

@@ -1,14 +1,16 @@
-//! Folds the coldest directories into those above them, where there are more than the planner takes.
+//! Folds directories into those above them: the coldest, where there are more than the planner takes, or all but
+//! those that are units.
 ghost use Rattle.std.specs.Prelude.{◌≡◌, ◌+◌, ◌<◌, ◌≤◌, ◌^◌, ℕ, IsTrue, false, true};
 ghost use Rattle.std.specs.Prelude.{length, min, slice_get, slice_index, IfOk, IsOkAnd};
 ghost use Rattle.std.specs.Option.{option_map};
-ghost use Rattle.ceph_folding.specs.Folding.{HasLeft, IsFolded, IsHome, all_heat, all_inodes, all_writes};
+ghost use Rattle.ceph_folding.specs.Folding.{AreUnitsLeft, HasLeft, IsFolded, IsHome, IsPlain, StillKept};
+ghost use Rattle.ceph_folding.specs.Folding.{all_heat, all_inodes, all_writes};
 ghost use Rattle.ceph_folding.specs.Folding.{kept_below, put_together, with_amounts};
 ghost use Rattle.ceph_snapshot.specs.Holding.{AreParentsFirst, is_marked, parent_at};
 ghost use Rattle.ceph_snapshot.specs.Policies.{KeepUnpinnable, StillKeepUnpinnable};
 
 use crate::amounts::{Amount, brought_home};
-use crate::coldest::coldest;
+use crate::coldest::{coldest, is_plain};
 use ceph_snapshot::{Directory, SnapshotError};
 use std::alloc::{AllocError, Global};
 
@@ -65,23 +67,28 @@ fn places(alloc: Global, gone: &[bool]) -> Result<Vec<u32>, AllocError>
     Ok(places)
 }
 
-/// The new place of each directory's parent.
+/// The new place of the home of each directory's parent.
 fn new_parents(
     alloc: Global,
     directories: &[Directory],
     gone: &[bool],
+    homes: &[usize],
 ) -> Result<Vec<u32>, AllocError>
     requires first { AreParentsFirst directories.now }
     requires few { length directories.now ≤ 2 ^ 32 }
     requires size { length gone.now ≡ length directories.now }
+    requires homes { length homes.now ≡ length directories.now }
+    requires inside { (i : ℕ) → i < length directories.now → slice_index homes.now i < length directories.now }
     ensures size { IfOk result (λ parents. length parents.items ≡ length directories.now) }
     ensures parents { IfOk result (λ parents. (i : ℕ) → i < length directories.now
-        → slice_index parents.items i ≡ kept_below (is_marked gone.now) (parent_at directories.now i)) }
+        → slice_index parents.items i
+        ≡ kept_below (is_marked gone.now) (slice_index homes.now (parent_at directories.now i))) }
 {
     let places = places(alloc, gone)?;
     let mut parents = Vec::with_capacity(alloc, directories.len())?;
     for (at, directory) in directories.iter().enumerate() {
-        parents.push(places[directory.parent as usize])?;
+        let home = homes[directory.parent as usize];
+        parents.push(places[home])?;
     }
     Ok(parents)
 }
@@ -153,7 +160,7 @@ fn folded(
     let heats = brought_home(alloc, before, at_home, Amount::Heat)?;
     let writes = brought_home(alloc, before, at_home, Amount::Writes)?;
     let inodes = brought_home(alloc, before, at_home, Amount::Inodes)?;
-    let parents = new_parents(alloc, before, gone)?;
+    let parents = new_parents(alloc, before, gone, at_home)?;
     let kept = close_up(&mut directories, gone, &parents, &heats, &writes, &inodes);
     directories.truncate(kept);
     Ok(directories)
@@ -174,6 +181,7 @@ pub fn fold(
     ensures inodes { IfOk result (λ found. all_inodes found.0.items ≡ all_inodes directories.items) }
     ensures unpinnable { KeepUnpinnable directories.items
         → IfOk result (λ found. StillKeepUnpinnable directories.items found.0.items) }
+    ensures kept { IfOk result (λ found. StillKept directories.items found.0.items) }
     ensures count { IfOk result (λ found. length found.0.items + found.1 ≡ length directories.items) }
 {
     let count = directories.len();
@@ -184,6 +192,67 @@ pub fn fold(
         return Err(SnapshotError::TooMany);
     }
     let gone = coldest(alloc, &directories, limit)?;
+    let left = folded(alloc, directories, &gone)?;
+    let folded = count - left.len();
+    Ok((left, folded))
+}
+
+/// Whether the directory at a place is folded: it is plain, and no unit.
+fn is_other(directories: &[Directory], units: &[bool], at: usize) -> bool
+    requires first { AreParentsFirst directories.now }
+    requires size { length units.now ≡ length directories.now }
+    requires inside { at < length directories.now }
+    ensures plain { result ≡ true → IsPlain directories.now at }
+    ensures other { result ≡ true → is_marked units.now at ≡ false }
+    ensures all { IsPlain directories.now at → is_marked units.now at ≡ false → result ≡ true }
+{
+    if units[at] {
+        return false;
+    }
+    is_plain(directories, at)
+}
+
+/// Which directories are gone where all plain ones are folded but those that are units.
+fn others(alloc: Global, directories: &[Directory], units: &[bool]) -> Result<Vec<bool>, AllocError>
+    requires first { AreParentsFirst directories.now }
+    requires size { length units.now ≡ length directories.now }
+    ensures size { IfOk result (λ gone. length gone.items ≡ length directories.now) }
+    ensures plain { IfOk result (λ gone. (i : ℕ) → i < length directories.now → is_marked gone.items i ≡ true
+        → IsPlain directories.now i) }
+    ensures other { IfOk result (λ gone. (i : ℕ) → i < length directories.now → is_marked gone.items i ≡ true
+        → is_marked units.now i ≡ false) }
+    ensures all { IfOk result (λ gone. (i : ℕ) → i < length directories.now → IsPlain directories.now i
+        → is_marked units.now i ≡ false → is_marked gone.items i ≡ true) }
+{
+    let mut gone = Vec::with_capacity(alloc, directories.len())?;
+    for at in 0..directories.len() {
+        gone.push(is_other(directories, units, at))?;
+    }
+    Ok(gone)
+}
+
+/// Folds each plain directory that is no unit: its heat, writes and inodes go to the nearest directory above it that is
+/// kept. `units[i]` says whether directory i is a unit. Gives how many were folded.
+pub fn fold_to_units(
+    alloc: Global,
+    directories: Vec<Directory>,
+    units: &[bool],
+) -> Result<(Vec<Directory>, usize), SnapshotError>
+    requires { length units.now ≡ length directories.items }
+    ensures units { IfOk result (λ found. AreUnitsLeft directories.items found.0.items (is_marked units.now)) }
+    ensures heat { IfOk result (λ found. all_heat found.0.items ≡ all_heat directories.items) }
+    ensures writes { IfOk result (λ found. all_writes found.0.items ≡ all_writes directories.items) }
+    ensures inodes { IfOk result (λ found. all_inodes found.0.items ≡ all_inodes directories.items) }
+    ensures unpinnable { KeepUnpinnable directories.items
+        → IfOk result (λ found. StillKeepUnpinnable directories.items found.0.items) }
+    ensures kept { IfOk result (λ found. StillKept directories.items found.0.items) }
+    ensures count { IfOk result (λ found. length found.0.items + found.1 ≡ length directories.items) }
+{
+    let count = directories.len();
+    if count > 1 << 32 || !are_parents_first(&directories) {
+        return Err(SnapshotError::TooMany);
+    }
+    let gone = others(alloc, &directories, units)?;
     let left = folded(alloc, directories, &gone)?;
     let folded = count - left.len();
     Ok((left, folded))

@@ -1,8 +1,9 @@
-//! Folds the coldest directories of a snapshot into those above them, where it has more than a plan may have.
+//! Folds directories of a snapshot into those above them: the coldest, where it has more than a plan may have, or all
+//! but those that Ceph's commands for subvolumes name.
 #![tactic(auto)]
 
 mod amounts;
 mod coldest;
 pub mod folding;
 
-pub use folding::fold;
+pub use folding::{fold, fold_to_units};

@@ -8,7 +8,7 @@ use Rattle.ceph_dumps.specs.declared.listing.EphemeralPin.{EphemeralPin}
 use Rattle.ceph_dumps.specs.declared.listing.EphemeralPin.TheVariants.{Random}
 use Rattle.ceph_snapshot.specs.declared.directory.Directory.{Directory}
 use Rattle.ceph_snapshot.specs.Holding.{AreParentsFirst, is_kept_at, is_marked, parent_at, pin_at}
-use Rattle.ceph_snapshot.specs.Policies.{KeepUnpinnable, HasBeaten, LeadsToRandom, IsAboveRandom, idle_at, kept_where, policy_at}
+use Rattle.ceph_snapshot.specs.Policies.{KeepUnpinnable, HasBeaten, LeadsToRandom, IsAboveRandom, idle_at, is_doubtful_at, kept_where, policy_at}
 
 slice_get_some : (ds : List Directory) (i : ℕ) → i < length ds → (d : Directory) × (slice_get ds i ≡ Some d)
 slice_get_some ds i inside =
@@ -214,15 +214,17 @@ first_alike old new same first = record {
 -- whether a directory inside is kept
 kept_is : (b : Bool) (o : Option Directory) (d : Directory) → o ≡ Some d
     → option_map_or (λ (one : Directory). one.is_kept) (option_map (kept_where b) o) false
-    ≡ b || (is_some (option_map_or (λ (one : Directory). one.policy) (option_map (kept_where b) o) None) || is_some (option_map_or (λ (one : Directory). one.idle) (option_map (kept_where b) o) None))
+    ≡ b || (is_some (option_map_or (λ (one : Directory). one.policy) (option_map (kept_where b) o) None)
+    || (is_some (option_map_or (λ (one : Directory). one.idle) (option_map (kept_where b) o) None) || option_map_or (λ (one : Directory). one.is_doubtful) (option_map (kept_where b) o) false))
 kept_is b o d is = rw is refl
 
 kept_at_is : (old new : List Directory) (marks : List Bool) (i : ℕ) → Marked old new marks → i < length old
-    → is_kept_at new i ≡ is_marked marks i || (is_some (policy_at new i) || is_some (idle_at new i))
+    → is_kept_at new i ≡ is_marked marks i || (is_some (policy_at new i) || (is_some (idle_at new i) || is_doubtful_at new i))
 kept_at_is old new marks i made inside =
     let found : (d : Directory) × (slice_get old i ≡ Some d) = slice_get_some old i inside in
     subst (λ (o : Option Directory). option_map_or (λ (one : Directory). one.is_kept) o false
-    ≡ is_marked marks i || (is_some (option_map_or (λ (one : Directory). one.policy) o None) || is_some (option_map_or (λ (one : Directory). one.idle) o None)))
+    ≡ is_marked marks i || (is_some (option_map_or (λ (one : Directory). one.policy) o None)
+    || (is_some (option_map_or (λ (one : Directory). one.idle) o None) || option_map_or (λ (one : Directory). one.is_doubtful) o false)))
     (sym (made i inside)) (kept_is (is_marked marks i) (slice_get old i) found.0 found.1)
 
 -- those are kept that may not be pinned
@@ -233,27 +235,36 @@ are_kept old new marks size made found first i low inside =
     let same : IsAlike old new = alike old new marks size made in
     let was : AreParentsFirst old = first_alike old new same first in
     let within : i < length old = omega (arith, inside, size) in
-    let is : is_kept_at new i ≡ is_marked marks i || (is_some (policy_at new i) || is_some (idle_at new i)) = kept_at_is old new marks i made within in
+    let policy : Bool = is_some (policy_at new i) in
+    let idle : Bool = is_some (idle_at new i) in
+    let doubt : Bool = is_doubtful_at new i in
+    let is : is_kept_at new i ≡ is_marked marks i || (policy || (idle || doubt)) = kept_at_is old new marks i made within in
     let mark : (is_marked marks i ≡ true) ↔ HasBeaten old 1 i = found was i low within in (
       λ kept. ⊎_elim
           (λ (m : is_marked marks i ≡ true).
           let above : IsAboveRandom old i = all_above old i was low (inl (mark.0 m)) in
-          inr (inr (record { steps = above.steps; policy = above_alike old new above.steps i same above.policy })))
-          (λ (other : (is_some (policy_at new i) || is_some (idle_at new i)) ≡ true).
-          ⊎_elim (λ (p : is_some (policy_at new i) ≡ true). inl p) (λ (n : is_some (idle_at new i) ≡ true). inr (inl n)) (or_cases (is_some (policy_at new i)) (is_some (idle_at new i)) other))
-          (or_cases (is_marked marks i) (is_some (policy_at new i) || is_some (idle_at new i)) (sym is ∙ kept)),
+          inr (inr (inr (record { steps = above.steps; policy = above_alike old new above.steps i same above.policy }))))
+          (λ (other : (policy || (idle || doubt)) ≡ true).
+          ⊎_elim (λ (p : policy ≡ true). inl p)
+          (λ (rest : (idle || doubt) ≡ true). ⊎_elim (λ (n : idle ≡ true). inr (inl n)) (λ (d : doubt ≡ true). inr (inr (inl d))) (or_cases idle doubt rest))
+          (or_cases policy (idle || doubt) other))
+          (or_cases (is_marked marks i) (policy || (idle || doubt)) (sym is ∙ kept)),
       λ cause. is ∙ ⊎_elim
-          (λ (p : is_some (policy_at new i) ≡ true). or_other (is_marked marks i) (is_some (policy_at new i) || is_some (idle_at new i)) (or_one (is_some (policy_at new i)) (is_some (idle_at new i)) p))
-          (λ (rest : (is_some (idle_at new i) ≡ true) ⊎ IsAboveRandom new i).
+          (λ (p : policy ≡ true). or_other (is_marked marks i) (policy || (idle || doubt)) (or_one policy (idle || doubt) p))
+          (λ (rest : (idle ≡ true) ⊎ ((doubt ≡ true) ⊎ IsAboveRandom new i)).
           ⊎_elim
-          (λ (n : is_some (idle_at new i) ≡ true). or_other (is_marked marks i) (is_some (policy_at new i) || is_some (idle_at new i)) (or_other (is_some (policy_at new i)) (is_some (idle_at new i)) n))
+          (λ (n : idle ≡ true). or_other (is_marked marks i) (policy || (idle || doubt)) (or_other policy (idle || doubt) (or_one idle doubt n)))
+          (λ (more : (doubt ≡ true) ⊎ IsAboveRandom new i).
+          ⊎_elim
+          (λ (d : doubt ≡ true). or_other (is_marked marks i) (policy || (idle || doubt)) (or_other policy (idle || doubt) (or_other idle doubt d)))
           (λ (above : IsAboveRandom new i).
           ⊎_elim
-          (λ (h : HasBeaten old 1 i). or_one (is_marked marks i) (is_some (policy_at new i) || is_some (idle_at new i)) (mark.1 h))
+          (λ (h : HasBeaten old 1 i). or_one (is_marked marks i) (policy || (idle || doubt)) (mark.1 h))
           (λ (here : policy_at old i ≡ Some Random).
-          let some : is_some (policy_at new i) ≡ true = ap (λ (o : Option EphemeralPin). is_some o) (same.policies i ∙ here) in
-          or_other (is_marked marks i) (is_some (policy_at new i) || is_some (idle_at new i)) (or_one (is_some (policy_at new i)) (is_some (idle_at new i)) some))
+          let some : policy ≡ true = ap (λ (o : Option EphemeralPin). is_some o) (same.policies i ∙ here) in
+          or_other (is_marked marks i) (policy || (idle || doubt)) (or_one policy (idle || doubt) some))
           (above_all old i was low (record { steps = above.steps; policy = back_alike old new above.steps i same above.policy })))
+          more)
           rest)
           cause,
     )

@@ -1,6 +1,8 @@
 pub mod Adding
 pub mod Beaten
+pub mod Doubtful
 pub mod Holders
+pub mod Listed
 pub mod Lookups
 pub mod Numbers
 pub mod Owners

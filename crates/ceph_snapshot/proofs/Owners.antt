@@ -8,7 +8,7 @@ use Rattle.ceph_snapshot.specs.declared.directory.Directory.{Directory}
 use Rattle.ceph_snapshot.specs.declared.tree.Node.{Node}
 use Rattle.ceph_snapshot.specs.Authority.{LieAsClaimed, is_torn_above, placed_node, rank_above}
 use Rattle.ceph_snapshot.specs.Holding.{is_marked}
-use Rattle.ceph_snapshot.specs.Gathered.{PathPin, WhosePin, listed_at, listed_of, path_pin, path_pin_at, whose_pin, whose_pin_at}
+use Rattle.ceph_snapshot.specs.Gathered.{PathPin, WhosePin, listed_at, listed_of, numbers_at, numbers_of, path_pin, path_pin_at, whose_pin, whose_pin_at}
 use Rattle.ceph_snapshot.specs.Policies.{kept_where}
 use Rattle.ceph_snapshot.specs.Sightings.{account_of, account_at}
 
@@ -29,6 +29,10 @@ still {X} f change same xs ys size made i =
 pub owner_kept : (old new : List Directory) (marks : List Bool) → length new ≡ length old
     → ((i : ℕ) → i < length old → slice_get new i ≡ option_map (kept_where (is_marked marks i)) (slice_get old i)) → (i : ℕ) → whose_pin_at new i ≡ whose_pin_at old i
 owner_kept old new marks size kept i = still whose_pin (λ k. kept_where (is_marked marks k)) (λ k d. refl) old new size kept i
+
+pub numbers_kept : (old new : List Directory) (marks : List Bool) → length new ≡ length old
+    → ((i : ℕ) → i < length old → slice_get new i ≡ option_map (kept_where (is_marked marks i)) (slice_get old i)) → (i : ℕ) → numbers_at new i ≡ numbers_at old i
+numbers_kept old new marks size kept i = still numbers_of (λ k. kept_where (is_marked marks k)) (λ k d. refl) old new size kept i
 
 pub pin_placed : (nodes placed : List Node) → LieAsClaimed nodes placed → (i : ℕ) → path_pin_at placed i ≡ path_pin_at nodes i
 pin_placed nodes placed are i =

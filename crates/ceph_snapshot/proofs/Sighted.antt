@@ -11,6 +11,7 @@ use Rattle.ceph_snapshot.specs.declared.directory.Directory.{Directory}
 use Rattle.ceph_snapshot.specs.declared.tree.Node.{Node}
 use Rattle.ceph_snapshot.specs.declared.tree.Sighting.{Sighting}
 use Rattle.ceph_snapshot.specs.Authority.{node_path_at}
+use Rattle.ceph_snapshot.specs.Doubts.{with_listed}
 use Rattle.ceph_snapshot.specs.Gathered.{seen_heat}
 use Rattle.ceph_snapshot.specs.Holding.{most_heat}
 use Rattle.ceph_snapshot.specs.Sightings.{AreCold, HasSeen, HaveOwnPaths, PathHeat, Position, Account, counts, inode_seen, is_seen_by, mean_of, mean_account, position_of, sum_at, account_of, account_at, account_by, account_with, with_path}
@@ -158,7 +159,7 @@ sum_path nodes i n d part of (s ∷ ss) parts apart there paths places inside =
           ∙ (ap (λ (b : Bool). cond (bytes_eq (node_path_at nodes s.directory) d.path.items && b) (part s) 0) seen ∙ ap (λ (k : ℕ). cond (counts d (with_path nodes s)) k 0) (sym (parts s)))
 
 -- the inode number, by path
-inode_path : (nodes : List Node) (i : ℕ) (t : Account) (found : Option ℕ) (ss : List Sighting) → HaveOwnPaths nodes → account_at nodes i ≡ Some t
+pub inode_path : (nodes : List Node) (i : ℕ) (t : Account) (found : Option ℕ) (ss : List Sighting) → HaveOwnPaths nodes → account_at nodes i ≡ Some t
     → All (λ (s : Sighting). s.directory < length nodes) ss
     → fold (λ (o : Option ℕ) (s : Sighting). cond (s.directory == i) (option_or s.inode o) o) found ss ≡ fold (λ (o : Option ℕ) (s : PathHeat). cond (bytes_eq s.path t.0) (option_or s.inode o) o) found (map (with_path nodes) ss)
 inode_path nodes i t found [] apart there inside = refl
@@ -166,22 +167,21 @@ inode_path nodes i t found (s ∷ ss) apart there inside =
     ap (λ (b : Bool). fold (λ (o : Option ℕ) (one : Sighting). cond (one.directory == i) (option_or one.inode o) o) (cond b (option_or s.inode found) found) ss) (same_path nodes i s.directory t apart there (inside 0 s (omega arith)))
     ∙ inode_path nodes i t (cond (bytes_eq (node_path_at nodes s.directory) t.0) (option_or s.inode found) found) ss apart there (λ k e l. inside (suc k) e (omega (arith, l)))
 
-pub has_seen : (nodes : List Node) (i samples : ℕ) (n d : Directory) (ss : List Sighting) (seen : List PathHeat) → map (with_path nodes) ss ≡ seen → HaveOwnPaths nodes
-    → account_at nodes i ≡ Some (account_of n) → position_of d ≡ position_of n → All (λ (s : Sighting). s.directory < length nodes) ss → account_of d ≡ mean_account samples (account_by i ss n) → HasSeen seen samples d
-has_seen nodes i samples n d ss seen is apart there places inside counted = subst (λ (hs : List PathHeat). HasSeen hs samples d) is record {
+pub has_seen : (nodes : List Node) (i samples : ℕ) (listed : Option ℕ) (n d : Directory) (ss : List Sighting) (seen : List PathHeat) → map (with_path nodes) ss ≡ seen → HaveOwnPaths nodes
+    → account_at nodes i ≡ Some (account_of n) → position_of d ≡ position_of n → All (λ (s : Sighting). s.directory < length nodes) ss → account_of d ≡ with_listed listed (mean_account samples (account_by i ss n)) → HasSeen seen samples d
+has_seen nodes i samples listed n d ss seen is apart there places inside counted = subst (λ (hs : List PathHeat). HasSeen hs samples d) is record {
   heat = ap (λ (t : Account). t.1.0) counted ∙ ap (mean_of samples) (sum_path nodes i n d (λ s. s.heat) (λ s. s.heat) ss (λ s. refl) apart there paths places inside);
   writes = ap (λ (t : Account). t.1.1.0) counted ∙ ap (mean_of samples) (sum_path nodes i n d (λ s. s.writes) (λ s. s.writes) ss (λ s. refl) apart there paths places inside);
-  inode = ap (λ (t : Account). t.1.1.1) counted ∙ (inode_path nodes i (account_of n) None ss apart there inside ∙ ap (λ (p : List ℕ). inode_seen p (map (with_path nodes) ss)) paths);
 } where
   paths : n.path.items ≡ d.path.items
   paths = sym (ap (λ (t : Account). t.0) counted)
 
 pub seen_at : (nodes : List Node) (o f : Option Node) (i samples : ℕ) (d : Directory) (ss : List Sighting) (seen : List PathHeat) → map (with_path nodes) ss ≡ seen → HaveOwnPaths nodes
     → All (λ (s : Sighting). s.directory < length nodes) ss → option_map (λ (n : Node). account_of n.directory) o ≡ account_at nodes i
-    → Some (account_of d) ≡ option_map (λ (n : Node). mean_account samples (account_of n.directory)) f → option_map (λ (n : Node). account_of n.directory) f ≡ option_map (λ (n : Node). account_by i ss n.directory) o
+    → Some (account_of d) ≡ option_map (λ (n : Node). with_listed n.listed (mean_account samples (account_of n.directory))) f → option_map (λ (n : Node). account_of n.directory) f ≡ option_map (λ (n : Node). account_by i ss n.directory) o
     → Some (position_of d) ≡ option_map (λ (n : Node). position_of n.directory) o → HasSeen seen samples d
 seen_at nodes None f i samples d ss seen is apart inside was mean counted place = absurd (none-some (position_of d) (sym place))
 seen_at nodes (Some n) None i samples d ss seen is apart inside was mean counted place = absurd (none-some (account_of d) (sym mean))
 seen_at nodes (Some n) (Some m) i samples d ss seen is apart inside was mean counted place =
-    has_seen nodes i samples n.directory d ss seen is apart (sym was) (ap (λ (o : Option Position). unwrap_or o (position_of d)) place) inside
-    (ap (λ (o : Option Account). unwrap_or o (account_of d)) mean ∙ ap (mean_account samples) (ap (λ (o : Option Account). unwrap_or o (account_of d)) counted))
+    has_seen nodes i samples m.listed n.directory d ss seen is apart (sym was) (ap (λ (o : Option Position). unwrap_or o (position_of d)) place) inside
+    (ap (λ (o : Option Account). unwrap_or o (account_of d)) mean ∙ ap (λ (t : Account). with_listed m.listed (mean_account samples t)) (ap (λ (o : Option Account). unwrap_or o (account_of d)) counted))

@@ -15,7 +15,7 @@ use Rattle.ceph_snapshot.specs.declared.tree.Sighting.{Sighting}
 use Rattle.ceph_snapshot.specs.declared.names.Names.{Names}
 use Rattle.ceph_snapshot.specs.Names.{path_number}
 use Rattle.ceph_snapshot.specs.Sightings.{Account, IsNumberOf, IsNumbered, TreeData, account_at, account_of, with_path}
-use Rattle.ceph_snapshot.specs.Facts.{AreAsTold, Fact, IsAsTold, IsToldSpread, IsWith, StillTold, any_of, entries_told, fact_path, pin_told, policy_told, is_marked_spread, is_other, is_rank, is_root_at, last_of, rank_told}
+use Rattle.ceph_snapshot.specs.Facts.{AreAsTold, Fact, IsAsTold, IsToldSpread, IsWith, StillTold, any_of, entries_told, fact_path, number_listed, pin_told, policy_told, is_marked_spread, is_other, is_rank, is_root_at, last_of, rank_told}
 use Rattle.ceph_snapshot.proofs.Beaten.{or_cases, or_one, or_other}
 use Rattle.ceph_snapshot.proofs.Numbers.{numbered_set, own_paths, path_account, path_same}
 use Rattle.ceph_snapshot.proofs.Parents.{get_more}
@@ -84,6 +84,7 @@ told_by facts more n last any was =
       pinned = was.pinned ∙ ap (λ (o : Option (Option ℕ)). unwrap_or o None) (last _ _);
       inodes = was.inodes ∙ ap (λ (o : Option ℕ). unwrap_or o 1) (last _ _);
       policy = was.policy ∙ last _ _;
+      number = was.number ∙ last _ _;
       spread = (λ is. spread_from path facts more (λ p h. sym (any p) ∙ h) (was.spread.0 is), λ is. was.spread.1 (spread_from path more facts (λ p h. any p ∙ h) is));
     }
 
@@ -192,6 +193,7 @@ told_own facts f old new path own more was = record {
   pinned = more.pinned ∙ (ap (unwrap_or (pin_told f)) was.pinned ∙ (unwrapped (pin_told f) (last_of pin_told p facts) None ∙ ap (λ (o : Option (Option ℕ)). unwrap_or o None) (last pin_told)));
   inodes = more.inodes ∙ (ap (unwrap_or (entries_told f)) was.inodes ∙ (unwrapped (entries_told f) (last_of entries_told p facts) 1 ∙ ap (λ (o : Option ℕ). unwrap_or o 1) (last entries_told)));
   policy = more.policy ∙ (ap (option_or (policy_told f)) was.policy ∙ last policy_told);
+  number = more.number ∙ (ap (option_or (number_listed f)) was.number ∙ last number_listed);
   spread = subst (λ (q : List ℕ). (new.directory.is_spread ≡ true) ↔ IsToldSpread q (facts ++ f ∷ [])) (sym path)
       (subst (λ (b : Bool). (b ≡ true) ↔ IsToldSpread p (facts ++ f ∷ [])) (sym more.spread) (spread_own p facts f old.directory.is_spread old.root own was.root was.spread));
 } where

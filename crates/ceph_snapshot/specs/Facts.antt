@@ -1,4 +1,5 @@
--- What the dumps say of a directory, but for heat: its root, its pin, its entries, its policy and whether it is spread.
+-- What the dumps say of a directory, but for heat: its root, its pin, its entries, its policy, its listed number and
+-- whether it is spread.
 use Rattle.std.specs.Prelude.{◌≡◌, ◌≢◌, ◌==◌, ◌&&◌, ◌||◌, ◌⊎◌, ◌↔◌, ℕ, ℤ, pos, negsuc, All, Bool, true, false, max, not}
 use Rattle.std.specs.Prelude.{List, map, filter, Option, Some, None, if◌then◌else◌}
 use Rattle.std.specs.List.{fold, list_any}
@@ -7,7 +8,7 @@ use Rattle.std.specs.Str.{bytes_eq}
 use Rattle.ceph_dumps.specs.declared.listing.EphemeralPin.{EphemeralPin}
 use Rattle.ceph_dumps.specs.declared.listing.ListedDir.{ListedDir}
 use Rattle.ceph_dumps.specs.declared.listing.ListedValue.{ListedValue}
-use Rattle.ceph_dumps.specs.declared.listing.ListedValue.TheVariants.{Entries, Pin, Policy}
+use Rattle.ceph_dumps.specs.declared.listing.ListedValue.TheVariants.{Entries, Inode, Pin, Policy}
 use Rattle.ceph_dumps.specs.declared.subtrees.SubtreeRoot.{SubtreeRoot}
 use Rattle.ceph_snapshot.specs.declared.tree.Node.{Node}
 use Rattle.ceph_snapshot.specs.Authority.{is_user_path}
@@ -48,6 +49,7 @@ abbrev pub listed_pin : ListedValue → Option (Option ℕ)
 listed_pin (Entries count) = None
 listed_pin (Pin pin) = option_map (λ (n : ℕ). Some n) pin
 listed_pin (Policy policy) = None
+listed_pin (Inode number) = None
 
 abbrev pub pin_told : Fact → Option (Option ℕ)
 pin_told (Root rank root) = option_map pin_number root.pin
@@ -58,6 +60,7 @@ abbrev pub listed_entries : ListedValue → Option ℕ
 listed_entries (Entries count) = Some (max count 1)
 listed_entries (Pin pin) = None
 listed_entries (Policy policy) = None
+listed_entries (Inode number) = None
 
 abbrev pub entries_told : Fact → Option ℕ
 entries_told (Root rank root) = None
@@ -67,10 +70,22 @@ abbrev pub listed_policy : ListedValue → Option EphemeralPin
 listed_policy (Entries count) = None
 listed_policy (Pin pin) = None
 listed_policy (Policy policy) = policy
+listed_policy (Inode number) = None
 
 abbrev pub policy_told : Fact → Option EphemeralPin
 policy_told (Root rank root) = None
 policy_told (Value dir) = listed_policy dir.value
+
+-- the inode number
+abbrev pub listed_number : ListedValue → Option ℕ
+listed_number (Entries count) = None
+listed_number (Pin pin) = None
+listed_number (Policy policy) = None
+listed_number (Inode number) = Some number
+
+abbrev pub number_listed : Fact → Option ℕ
+number_listed (Root rank root) = None
+number_listed (Value dir) = listed_number dir.value
 
 -- whether it is a root at this rank; one that Ceph itself spreads
 abbrev pub is_rank : ℕ → Option ℕ → Bool
@@ -101,6 +116,7 @@ pub record IsAsTold (facts : List Fact) (n : Node) : Type 0 where
   pub pinned : n.pinned ≡ unwrap_or (last_of pin_told n.directory.path.items facts) None
   pub inodes : n.directory.inodes ≡ unwrap_or (last_of entries_told n.directory.path.items facts) 1
   pub policy : n.directory.policy ≡ last_of policy_told n.directory.path.items facts
+  pub number : n.listed ≡ last_of number_listed n.directory.path.items facts
   pub spread : (n.directory.is_spread ≡ true) ↔ IsToldSpread n.directory.path.items facts
 
 -- each directory is as the facts say, and each fact is of a directory that is there
@@ -125,5 +141,6 @@ pub record IsWith (f : Fact) (old new : Node) : Type 0 where
   pub pinned : new.pinned ≡ unwrap_or (pin_told f) old.pinned
   pub inodes : new.directory.inodes ≡ unwrap_or (entries_told f) old.directory.inodes
   pub policy : new.directory.policy ≡ option_or (policy_told f) old.directory.policy
+  pub number : new.listed ≡ option_or (number_listed f) old.listed
   pub spread : new.directory.is_spread
       ≡ (old.directory.is_spread || (is_other old.root (rank_told f) || is_marked_spread f))

@@ -47,12 +47,12 @@ rank_named path before pin = if bytes_eq pin.path.items path then Some pin.rank 
 abbrev pub listed_rank : List OwnPin → List ℕ → Option ℕ
 listed_rank own path = fold (rank_named path) None own
 
--- the path of a directory, and its pin, whoever set it
+-- the path of a directory, its pin, whoever set it, and its listed number
 abbrev pub PathPin : Type 0
-PathPin = List ℕ × Option ℕ
+PathPin = List ℕ × (Option ℕ × Option ℕ)
 
 abbrev pub path_pin : Node → PathPin
-path_pin n = (n.directory.path.items, n.pinned)
+path_pin n = (n.directory.path.items, (n.pinned, n.listed))
 
 abbrev pub path_pin_at : List Node → ℕ → Option PathPin
 path_pin_at nodes i = option_map path_pin (slice_get nodes i)
@@ -72,13 +72,23 @@ abbrev pub with_owner : List OwnPin → ℕ → PathPin → WhosePin
 with_owner own ranks at = (
   at.0,
   (
-    foreign_pin at.1 (listed_rank own at.0) ranks,
+    foreign_pin at.1.0 (listed_rank own at.0) ranks,
     (
-      idle_pin at.1 (listed_rank own at.0) ranks,
-      our_pin at.1 (listed_rank own at.0),
+      idle_pin at.1.0 (listed_rank own at.0) ranks,
+      our_pin at.1.0 (listed_rank own at.0),
     ),
   ),
 )
+
+-- the path of a directory, its inode number, and whether it is doubtful
+abbrev pub PathNumber : Type 0
+PathNumber = List ℕ × (Option ℕ × Bool)
+
+abbrev pub numbers_of : Directory → PathNumber
+numbers_of d = (d.path.items, (d.inode, d.is_doubtful))
+
+abbrev pub numbers_at : List Directory → ℕ → Option PathNumber
+numbers_at directories i = option_map numbers_of (slice_get directories i)
 
 -- how many entries a directory has, and its policy
 abbrev pub Listed : Type 0

@@ -1,8 +1,11 @@
 pub mod Authority
+pub mod Doubts
 pub mod Facts
 pub mod Gathered
 pub mod Holding
+pub mod Mounts
 pub mod Names
+pub mod Places
 pub mod Policies
 pub mod Rows
 pub mod Shown

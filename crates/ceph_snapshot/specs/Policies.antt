@@ -1,7 +1,7 @@
 -- Which directories may not be pinned, by Ceph's rule. (The CephFS documentation, "Configuring multiple active MDS
 -- daemons", sections on pinning directory trees and on dynamic subtree partitioning with ephemeral pins.)
 use Rattle.std.specs.Prelude.{◌≡◌, ◌<◌, ◌⊎◌, ◌↔◌, ◌≤◌, ◌||◌, ℕ, zero, suc}
-use Rattle.std.specs.Prelude.{Bool, true, is_some, List, [], length, slice_get, Option, Some, None}
+use Rattle.std.specs.Prelude.{Bool, true, false, is_some, List, [], length, slice_get, Option, Some, None}
 use Rattle.std.specs.Option.{option_map_or}
 pub use Rattle.ceph_dumps.specs.declared.listing.EphemeralPin.{EphemeralPin}
 pub use Rattle.ceph_dumps.specs.declared.listing.EphemeralPin.TheVariants.{Distributed, Random, Unknown}
@@ -29,25 +29,31 @@ pub record IsAboveRandom (directories : List Directory) (i : ℕ) : Type 0 where
   pub steps : ℕ
   pub policy : LeadsToRandom directories steps i
 
+abbrev pub is_doubtful_at : List Directory → ℕ → Bool
+is_doubtful_at directories i = option_map_or (λ (d : Directory). d.is_doubtful) (slice_get directories i) false
+
 -- a directory with a policy of its own, whose children Ceph spreads or whose descendants it pins, whether or not they
--- are cached now; one with somebody's pin to a rank that isn't there; and one above a random policy
+-- are cached now; one with somebody's pin to a rank that isn't there; a doubtful one; and one above a random policy
 abbrev pub IsUnpinnable : List Directory → ℕ → Type 0
 IsUnpinnable directories i =
     (is_some (policy_at directories i) ≡ true)
-    ⊎ ((is_some (idle_at directories i) ≡ true) ⊎ IsAboveRandom directories i)
+    ⊎ ((is_some (idle_at directories i) ≡ true)
+    ⊎ ((is_doubtful_at directories i ≡ true) ⊎ IsAboveRandom directories i))
 
 -- those below the root are kept that may not be pinned, and no others
 abbrev pub KeepUnpinnable : List Directory → Type 0
 KeepUnpinnable directories =
     (i : ℕ) → 0 < i → i < length directories → (is_kept_at directories i ≡ true) ↔ IsUnpinnable directories i
 
--- where a directory that may not be pinned is among those that are left, marked as one: it has its path and its policy
+-- where a directory that may not be pinned is among those that are left, marked as one: it has its path and its policy,
+-- and is doubtful if it was
 pub record IsLeftKept (directories left : List Directory) (i : ℕ) : Type 0 where
   pub place : ℕ
   pub below : 0 < place
   pub inside : place < length left
   pub path : dir_path_at left place ≡ dir_path_at directories i
   pub policy : policy_at left place ≡ policy_at directories i
+  pub doubtful : is_doubtful_at left place ≡ is_doubtful_at directories i
   pub kept : is_kept_at left place ≡ true
 
 -- each that may not be pinned is still there
@@ -66,4 +72,4 @@ pub record HasBeaten (directories : List Directory) (n i : ℕ) : Type 0 where
 
 -- and for one that has a random policy below it, or not
 abbrev pub kept_where : Bool → Directory → Directory
-kept_where above d = record d { is_kept = above || (is_some d.policy || is_some d.idle) }
+kept_where above d = record d { is_kept = above || (is_some d.policy || (is_some d.idle || d.is_doubtful)) }

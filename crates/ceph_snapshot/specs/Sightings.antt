@@ -1,4 +1,4 @@
--- The heat and the inode number of a directory, by what ranks have seen at its path.
+-- The heat of a directory and the inode number that dumps name, by what ranks have seen at its path.
 use Rattle.std.specs.Prelude.{◌≡◌, ◌==◌, ◌&&◌, ◌||◌, ◌/◌, ◌<◌, [], ℕ, All, Bool, List, length, map, filter, min, sum_by}
 use Rattle.std.specs.Prelude.{Option, Some, None, slice_get, if◌then◌else◌}
 use Rattle.std.specs.List.{fold}
@@ -165,4 +165,3 @@ inode_seen path seen = fold (λ found s. if bytes_eq s.path path then option_or 
 pub record HasSeen (seen : List PathHeat) (samples : ℕ) (d : Directory) : Type 0 where
   pub heat : d.heat ≡ mean_of samples (sum_by (λ s. if counts d s then s.heat else 0) seen)
   pub writes : d.writes ≡ mean_of samples (sum_by (λ s. if counts d s then s.writes else 0) seen)
-  pub inode : d.inode ≡ inode_seen d.path.items seen

@@ -10,7 +10,7 @@ use mds_types::Rank;
 pub struct Directory {
     /// Its path: empty for the root, else it begins with a slash.
     pub path: Vec<u8>,
-    /// Its inode number, where a dump of heat names it.
+    /// Its inode number: the one that dumps of heat named last, or else the one that was listed over a mount.
     pub inode: Option<u64>,
     /// The place of its parent, which is a smaller one; the root, at place 0, names itself.
     pub parent: u32,
@@ -30,7 +30,10 @@ pub struct Directory {
     pub earlier: Option<Rank>,
     /// Its own policy, by which Ceph pins what is below it.
     pub policy: Option<EphemeralPin>,
-    /// Whether it may not be pinned: it has a policy or an idle pin, or a pin on it would beat a random policy below.
+    /// Whether numbers were listed and it has none there, or dumps of heat name another one for its path.
+    pub is_doubtful: bool,
+    /// Whether it may not be pinned: it has a policy or an idle pin, it is doubtful, or a pin on it would beat a random
+    /// policy below.
     pub is_kept: bool,
     /// Whether it lies at several ranks, or Ceph itself spreads what is below.
     pub is_spread: bool,

@@ -36,6 +36,8 @@ pub struct Gathering {
     pub(crate) tops: Vec<u32>,
     /// Whether a walk listed the directories.
     pub(crate) is_listed: bool,
+    /// Whether inode numbers were listed.
+    pub(crate) is_numbered: bool,
 }
 
 impl Gathering {
@@ -44,6 +46,7 @@ impl Gathering {
         ensures seen { IfOk result (λ gathering. gathering.tree.seen ≡ []) }
         ensures told { IfOk result (λ gathering. AreAsTold gathering.tree.nodes []) }
         ensures listed { IfOk result (λ gathering. gathering.is_listed ≡ false) }
+        ensures numbered { IfOk result (λ gathering. gathering.is_numbered ≡ false) }
     {
         Ok(Gathering {
             alloc,
@@ -52,6 +55,7 @@ impl Gathering {
             fragments: Names::new(alloc)?,
             tops: Vec::new(alloc),
             is_listed: false,
+            is_numbered: false,
         })
     }
 
@@ -60,6 +64,7 @@ impl Gathering {
         ensures seen { OnOk result (self.new.tree.seen ≡ self.old.tree.seen ++ seen_in rank loads.now) }
         ensures told { OnOk result (StillTold self.old.tree.nodes self.new.tree.nodes) }
         ensures listed { self.new.is_listed ≡ self.old.is_listed }
+        ensures numbered { self.new.is_numbered ≡ self.old.is_numbered }
     {
         for fragment in loads {
             self.tree.see(self.alloc, rank, fragment)?;
@@ -72,6 +77,7 @@ impl Gathering {
         requires { root.now.is_here ≡ true }
         ensures tree { self.new.tree ≡ self.old.tree }
         ensures listed { self.new.is_listed ≡ self.old.is_listed }
+        ensures numbered { self.new.is_numbered ≡ self.old.is_numbered }
         ensures twice { (path : PathText) (one two : ℕ) → IsErrOf result (SnapshotError.TwoClaims path one two)
             → IsClaimedTwice self.new.fragments root.now rank path one two }
         ensures claimed { OnOk result ((fragment : List ℕ) → fragment_of root.now ≡ Some fragment
@@ -102,6 +108,7 @@ impl Gathering {
         ensures seen { self.new.tree.seen ≡ self.old.tree.seen }
         ensures told { OnOk result (StillTold self.old.tree.nodes self.new.tree.nodes) }
         ensures listed { self.new.is_listed ≡ self.old.is_listed }
+        ensures numbered { self.new.is_numbered ≡ self.old.is_numbered }
         ensures twice { (path : PathText) (one two : ℕ) → IsErrOf result (SnapshotError.TwoClaims path one two) → ⊥ }
     {
         let slash = path.iter().skip(1).position(|byte| *byte == b'/');
@@ -126,6 +133,7 @@ impl Gathering {
         ensures told { (facts : List Fact) → AreAsTold self.old.tree.nodes facts
             → OnOk result (AreAsTold self.new.tree.nodes (facts ++ roots_in rank (root.now ∷ []))) }
         ensures listed { self.new.is_listed ≡ self.old.is_listed }
+        ensures numbered { self.new.is_numbered ≡ self.old.is_numbered }
     {
         let Some(directory) = self.tree.number(self.alloc, root.path.as_slice())? else {
             return Ok(());
@@ -156,9 +164,27 @@ impl Gathering {
         ensures told { (facts : List Fact) → AreAsTold self.old.tree.nodes facts
             → OnOk result (AreAsTold self.new.tree.nodes (facts ++ roots_in rank roots.now)) }
         ensures listed { self.new.is_listed ≡ self.old.is_listed }
+        ensures numbered { self.new.is_numbered ≡ self.old.is_numbered }
     {
         for root in roots {
             self.add_subtree(rank, root)?;
+        }
+        Ok(())
+    }
+
+    /// Adds what a listing says, value by value.
+    fn add_values(&mut self, listing: &[ListedDir]) -> Result<(), SnapshotError>
+        ensures claims { self.new.fragments ≡ self.old.fragments }
+        ensures seen { self.new.tree.seen ≡ self.old.tree.seen }
+        ensures told { (facts : List Fact) → AreAsTold self.old.tree.nodes facts
+            → OnOk result (AreAsTold self.new.tree.nodes (facts ++ values_in listing.now)) }
+        ensures listed { self.new.is_listed ≡ self.old.is_listed }
+        ensures numbered { self.new.is_numbered ≡ self.old.is_numbered }
+    {
+        for listed in listing {
+            if let Some(number) = self.tree.number(self.alloc, listed.path.as_slice())? {
+                self.tree.add_value(number, listed);
+            }
         }
         Ok(())
     }
@@ -170,13 +196,22 @@ impl Gathering {
         ensures told { (facts : List Fact) → AreAsTold self.old.tree.nodes facts
             → OnOk result (AreAsTold self.new.tree.nodes (facts ++ values_in listing.now)) }
         ensures listed { OnOk result (self.new.is_listed ≡ true) }
+        ensures numbered { self.new.is_numbered ≡ self.old.is_numbered }
     {
         self.is_listed = true;
-        for listed in listing {
-            if let Some(number) = self.tree.number(self.alloc, listed.path.as_slice())? {
-                self.tree.add_value(number, listed);
-            }
-        }
-        Ok(())
+        self.add_values(listing)
+    }
+
+    /// Adds the inode numbers that were listed over a mount. Directories without one are doubtful from then on.
+    pub fn add_numbers(&mut self, listing: &[ListedDir]) -> Result<(), SnapshotError>
+        ensures claims { self.new.fragments ≡ self.old.fragments }
+        ensures seen { self.new.tree.seen ≡ self.old.tree.seen }
+        ensures told { (facts : List Fact) → AreAsTold self.old.tree.nodes facts
+            → OnOk result (AreAsTold self.new.tree.nodes (facts ++ values_in listing.now)) }
+        ensures listed { self.new.is_listed ≡ self.old.is_listed }
+        ensures numbered { OnOk result (self.new.is_numbered ≡ true) }
+    {
+        self.is_numbered = true;
+        self.add_values(listing)
     }
 }

@@ -4,6 +4,7 @@
 pub mod directory;
 pub mod gathering;
 pub mod held;
+pub mod mounted;
 mod names;
 pub mod policies;
 pub mod rows;
@@ -15,6 +16,7 @@ pub use ceph_dumps::EphemeralPin;
 pub use directory::Directory;
 pub use gathering::Gathering;
 pub use held::{Held, held_heat, holds};
+pub use mounted::Mounted;
 pub use rows::{free_heats, rows_of};
 pub use snapshot::Snapshot;
 pub use snapshot_error::SnapshotError;

@@ -1,10 +1,11 @@
-//! Which directories may not be pinned: what Ceph itself pins, and what somebody pinned to a rank that isn't there.
+//! Which directories may not be pinned: what Ceph itself pins, what somebody pinned to a rank that isn't there, and
+//! what may be another directory over the mount.
 ghost use Rattle.std.specs.Prelude.{◌≡◌, ◌==◌, ◌<◌, ◌&&◌, ◌||◌, ◌↔◌, ◌⊎◌};
 ghost use Rattle.std.specs.Prelude.{ℕ, None, Some, length, true, IfOk, OnOk, slice_get};
 ghost use Rattle.std.specs.Option.{option_map};
 ghost use Rattle.ceph_dumps.specs.declared.listing.EphemeralPin.TheVariants.{Random};
 ghost use Rattle.ceph_snapshot.specs.Holding.{AreParentsFirst, is_marked};
-ghost use Rattle.ceph_snapshot.specs.Gathered.{listed_of, whose_pin_at};
+ghost use Rattle.ceph_snapshot.specs.Gathered.{listed_of, numbers_at, whose_pin_at};
 ghost use Rattle.ceph_snapshot.specs.Policies.{KeepUnpinnable, HasBeaten, kept_where};
 ghost use Rattle.ceph_snapshot.specs.Sightings.{position_of, account_of};
 
@@ -55,7 +56,10 @@ fn mark_kept(directories: &mut Vec<Directory>, above: &[bool])
 {
     for at in 0..directories.len() {
         let directory = &mut directories[at];
-        directory.is_kept = above[at] || directory.policy.is_some() || directory.idle.is_some();
+        directory.is_kept = above[at]
+            || directory.policy.is_some()
+            || directory.idle.is_some()
+            || directory.is_doubtful;
     }
 }
 
@@ -70,6 +74,8 @@ pub(crate) fn keep(alloc: Global, directories: &mut Vec<Directory>) -> Result<()
         ≡ option_map position_of (slice_get directories.old.items i)) }
     ensures listed { OnOk result ((i : ℕ) → option_map listed_of (slice_get directories.new.items i)
         ≡ option_map listed_of (slice_get directories.old.items i)) }
+    ensures numbers { OnOk result ((i : ℕ) → numbers_at directories.new.items i
+        ≡ numbers_at directories.old.items i) }
     ensures kept { OnOk result (AreParentsFirst directories.new.items → KeepUnpinnable directories.new.items) }
 {
     let above = above_random(alloc, directories.as_slice())?;

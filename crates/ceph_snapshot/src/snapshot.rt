@@ -1,7 +1,7 @@
 //! The directories, from what was gathered of them.
 
-ghost use Rattle.std.specs.Prelude.{◌≡◌, ◌==◌, ◌<◌, ℕ, All, List, true, false};
-ghost use Rattle.std.specs.Prelude.{IfOk, IsErrOf, OnOk, length, map, nat_lt, slice_get, string_bytes};
+ghost use Rattle.std.specs.Prelude.{◌≡◌, ◌==◌, ◌&&◌, ◌*◌, ◌<◌, ℕ, All, List, true, false};
+ghost use Rattle.std.specs.Prelude.{IfOk, IsErrOf, IsOk, OnOk, count_by, length, map, nat_lt, slice_get, string_bytes};
 ghost use Rattle.std.specs.Prelude.{if◌then◌else◌};
 ghost use Rattle.std.specs.HashMap.{get_by};
 ghost use Rattle.std.specs.Option.{option_map};
@@ -10,8 +10,10 @@ ghost use Rattle.mds_types.specs.RankSet.{has_rank};
 ghost use Rattle.ceph_snapshot.specs.declared.tree.Node.{Node};
 ghost use Rattle.ceph_snapshot.specs.Authority.{IsUnclaimed, LieAsClaimed, PathText, is_torn_at, is_true_of};
 ghost use Rattle.ceph_snapshot.specs.Authority.{node_path_at, placed_node, lies_at};
-ghost use Rattle.ceph_snapshot.specs.Gathered.{foreign_pin, idle_pin, listed_rank, our_pin, path_pin};
-ghost use Rattle.ceph_snapshot.specs.Gathered.{path_pin_at, whose_pin, whose_pin_at, with_owner};
+ghost use Rattle.ceph_snapshot.specs.Doubts.{have_left, is_named, is_named_doubtful, with_listed};
+ghost use Rattle.ceph_snapshot.specs.Doubts.{is_doubt, numbers_with, with_numbers};
+ghost use Rattle.ceph_snapshot.specs.Gathered.{foreign_pin, idle_pin, listed_rank, numbers_at, our_pin, path_pin};
+ghost use Rattle.ceph_snapshot.specs.Gathered.{numbers_of, path_pin_at, whose_pin, whose_pin_at, with_owner};
 ghost use Rattle.ceph_snapshot.specs.Gathered.{is_unknown_at, listed_at, listed_of, with_unknown};
 ghost use Rattle.ceph_snapshot.specs.Shown.{shown_path};
 ghost use Rattle.ceph_snapshot.specs.Snapshots.{IsSnapshot};
@@ -148,11 +150,29 @@ fn pins_of(pinned: Option<u64>, own: Option<u64>, ranks: RankSet) -> Pins
     Pins { pin, idle, earlier }
 }
 
+/// Whether the number that dumps name for a path isn't the one that is listed of it, or none is.
+fn is_doubt(seen: Option<u64>, listed: Option<u64>) -> bool
+    ensures { result ≡ is_doubt seen listed }
+{
+    match (seen, listed) {
+        (_, None) => true,
+        (None, Some(_)) => false,
+        (Some(seen), Some(listed)) => seen != listed,
+    }
+}
+
 /// The directory of a node, with the mean heat and writes of `samples` samples and its pins, where these ranks are
-/// there. This program pinned it to the rank `own` before.
-fn finished(node: Node, own: Option<u64>, samples: u64, ranks: RankSet) -> Directory
+/// there. This program pinned it to the rank `own` before. `is_numbered` says whether inode numbers were listed.
+fn finished(
+    node: Node,
+    own: Option<u64>,
+    samples: u64,
+    ranks: RankSet,
+    is_numbered: bool,
+) -> Directory
     requires { 0 < samples }
-    ensures account { account_of result ≡ mean_account samples (account_of node.directory) }
+    ensures account { account_of result ≡ with_listed node.listed (mean_account samples (account_of node.directory)) }
+    ensures doubtful { result.is_doubtful ≡ (is_numbered && is_doubt node.directory.inode node.listed) }
     ensures now { result.now ≡ node.directory.now }
     ensures spread { result.is_spread ≡ node.directory.is_spread }
     ensures path { result.path ≡ node.directory.path }
@@ -164,6 +184,8 @@ fn finished(node: Node, own: Option<u64>, samples: u64, ranks: RankSet) -> Direc
 {
     let Pins { pin, idle, earlier } = pins_of(node.pinned, own, ranks);
     let mut directory = node.directory;
+    directory.is_doubtful = is_numbered && is_doubt(directory.inode, node.listed);
+    directory.inode = directory.inode.or(node.listed);
     directory.heat = (directory.heat / samples).min(HEAT_LIMIT);
     directory.writes = (directory.writes / samples).min(HEAT_LIMIT);
     directory.pin = pin;
@@ -200,6 +222,7 @@ fn confirm(alloc: Global, nodes: &[Node], hearsay: &[Hearsay]) -> Result<(), Sna
     ensures all { OnOk result (All (λ said. is_true_of nodes.now said ≡ true) hearsay.now) }
     ensures unclaimed { (path : PathText) (by said : ℕ) → IsErrOf result (SnapshotError.Unclaimed path by said)
         → IsUnclaimed nodes.now hearsay.now path by said }
+    ensures here { IsErrOf result SnapshotError.Elsewhere → ⊥ }
 {
     for said in hearsay {
         if !is_confirmed(nodes, *said) {
@@ -254,6 +277,35 @@ fn listed_ranks(alloc: Global, own: &[OwnPin]) -> Result<HashMap<Vec<u8>, u64>, 
     Ok(ranks)
 }
 
+/// How many directories dumps of heat name a number for.
+fn named_count(nodes: &[Node]) -> usize
+    ensures { result ≡ count_by is_named nodes.now }
+{
+    nodes
+        .iter()
+        .filter(|node| node.directory.inode.is_some())
+        .count()
+}
+
+/// How many of them are doubtful.
+fn doubtful_count(nodes: &[Node]) -> usize
+    ensures { result ≡ count_by is_named_doubtful nodes.now }
+{
+    let doubtful = nodes.iter().filter(|node| {
+        let inode = node.directory.inode;
+        inode.is_some() && is_doubt(inode, node.listed)
+    });
+    doubtful.count()
+}
+
+/// Whether numbers were listed, and more than half of the directories for which dumps of heat name one are doubtful.
+fn have_left(nodes: &[Node], is_numbered: bool) -> bool
+    ensures { result ≡ (is_numbered && nat_lt (count_by is_named nodes.now)
+        (2 * count_by is_named_doubtful nodes.now)) }
+{
+    is_numbered && named_count(nodes) / 2 < doubtful_count(nodes)
+}
+
 /// The directories of nodes. Whose their pins are, the list of this program's pins says.
 fn all_finished(
     alloc: Global,
@@ -261,12 +313,15 @@ fn all_finished(
     own: &[OwnPin],
     samples: u64,
     ranks: RankSet,
+    is_numbered: bool,
 ) -> Result<Vec<Directory>, AllocError>
     requires { 0 < samples }
     ensures owner { IfOk result (λ directories. map whose_pin directories.items
         ≡ map (λ n. with_owner own.now ranks (path_pin n)) nodes.items) }
     ensures account { IfOk result (λ directories. map account_of directories.items
-        ≡ map (λ n. mean_account samples (account_of n.directory)) nodes.items) }
+        ≡ map (λ n. with_listed n.listed (mean_account samples (account_of n.directory))) nodes.items) }
+    ensures numbers { IfOk result (λ directories. map numbers_of directories.items
+        ≡ map (numbers_with is_numbered) nodes.items) }
     ensures place { IfOk result (λ directories. map position_of directories.items
         ≡ map (λ n. position_of n.directory) nodes.items) }
     ensures listed { IfOk result (λ directories. map listed_of directories.items
@@ -276,7 +331,7 @@ fn all_finished(
     let mut directories = Vec::with_capacity(alloc, nodes.len())?;
     for node in nodes {
         let rank = listed.get(node.directory.path.as_slice()).copied();
-        directories.push(finished(node, rank, samples, ranks))?;
+        directories.push(finished(node, rank, samples, ranks, is_numbered))?;
     }
     Ok(directories)
 }
@@ -284,6 +339,8 @@ fn all_finished(
 impl Gathering {
     /// The snapshot of what was gathered, where each rank gave `samples` samples and `ranks` are in the file system. A
     /// pin is this program's where the last line of its list with the directory's path has its rank.
+    /// Where numbers were listed, a directory is doubtful that has none there, or another one than the dumps name; if
+    /// most of those that the dumps name are, the listing is of something else, and there is no snapshot.
     /// Without a listing no policy is known. Then a directory just below the root is held as a whole where Ceph's own
     /// pins are at or below it.
     pub fn snapshot(
@@ -298,6 +355,11 @@ impl Gathering {
             × LieAt placed snapshot.directories.items) }
         ensures snapshot { IfOk result IsSnapshot }
         ensures seen { IfOk result (λ snapshot. All (HasSeen self.tree.seen samples) snapshot.directories.items) }
+        ensures numbers { IfOk result (λ snapshot. (i : ℕ) → numbers_at snapshot.directories.items i
+            ≡ option_map (with_numbers self.is_numbered self.tree.seen) (path_pin_at self.tree.nodes i)) }
+        ensures here { IsOk result → have_left self.is_numbered self.tree.seen self.tree.nodes ≡ false }
+        ensures elsewhere { IsErrOf result SnapshotError.Elsewhere
+            → have_left self.is_numbered self.tree.seen self.tree.nodes ≡ true }
         ensures unclaimed { (path : PathText) (by said : ℕ) → IsErrOf result (SnapshotError.Unclaimed path by said)
             → (placed : List Node) × LieAsClaimed self.tree.nodes placed
             × IsUnclaimed placed self.hearsay.items path by said }
@@ -315,13 +377,17 @@ impl Gathering {
             fragments: _,
             tops,
             is_listed,
+            is_numbered,
         } = self;
         let (mut nodes, sightings) = tree.into_parts();
         place_all(&mut nodes);
         confirm(alloc, nodes.as_slice(), hearsay.as_slice())?;
         hold_tops(&mut nodes, tops.as_slice(), is_listed);
         let spread = see_all(alloc, &mut nodes, sightings.as_slice(), samples)?;
-        let mut directories = all_finished(alloc, nodes, own, samples, ranks)?;
+        if have_left(&nodes, is_numbered) {
+            return Err(SnapshotError::Elsewhere);
+        }
+        let mut directories = all_finished(alloc, nodes, own, samples, ranks, is_numbered)?;
         keep(alloc, &mut directories)?;
         Ok(Snapshot {
             directories,

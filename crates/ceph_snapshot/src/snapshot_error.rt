@@ -15,6 +15,9 @@ pub enum SnapshotError {
     /// together at one, heat or inodes, is more than 64 bits can count.
     #[error("too many directories")]
     TooMany,
+    /// Numbers were listed, and more than half of the directories for which dumps of heat name one are doubtful.
+    #[error("most directories of the dumps are not in the listing: it is of another file system or of another time")]
+    Elsewhere,
     /// Two ranks claim authority over the same fragment of a directory.
     #[error("ranks {first} and {second} both claim {path}: collect again")]
     TwoClaims {

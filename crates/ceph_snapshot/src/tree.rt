@@ -32,6 +32,8 @@ pub(crate) struct Node {
     pub root: Option<Rank>,
     /// Its pin, whoever set it.
     pub pinned: Option<u64>,
+    /// The inode number that was listed of it.
+    pub listed: Option<u64>,
     /// The greatest heat that a rank has seen at it, where it is spread.
     pub most: u64,
 }
@@ -221,11 +223,13 @@ fn unknown(path: Vec<u8>, parent: u32) -> Node
             idle: None,
             earlier: None,
             policy: None,
+            is_doubtful: false,
             is_kept: false,
             is_spread: false,
         },
         root: None,
         pinned: None,
+        listed: None,
         most: 0,
     }
 }
@@ -256,5 +260,6 @@ fn add_value(node: &mut Node, listed: &ListedDir)
         ListedValue::Entries(count) => node.directory.inodes = count.max(1),
         ListedValue::Pin(pin) => node.pinned = pin.or(node.pinned),
         ListedValue::Policy(policy) => node.directory.policy = policy.or(node.directory.policy),
+        ListedValue::Inode(number) => node.listed = Some(number),
     }
 }

@@ -3,7 +3,7 @@ use Rattle.ceph_snapshot.specs.declared.directory.Directory.{Directory}
 use Rattle.ceph_folding.specs.Folding.{AreGone, HasLeft}
 use Rattle.ceph_snapshot.specs.Holding.{is_marked}
 use Rattle.ceph_folding.proofs.Folds.{nothing_folded, same_heat, same_inodes, same_writes}
-use Rattle.ceph_folding.proofs.StillKept.{still-kept}
+use Rattle.ceph_folding.proofs.StillKept.{folded-kept, still-kept}
 use Rattle.ceph_folding.proofs.folding.fold.Goals as goal
 
 pub returns-then-count-limit-clause-folded : goal.returns-then-count-limit-clause-folded
@@ -29,3 +29,15 @@ returns-clause-unpinnable c = λ keep.
       subst (λ (ds : List Directory). AreGone ds (is_marked c.in_ok-gone.gone.items)) c.deref-2.ensures.value c.in_ok-gone.ensures.gone,
       subst (λ (gone : List Bool). HasLeft c.args.directories.items c.in_ok-left.left.items (is_marked gone) c.in_ok-left.ensures.0) c.deref-3.ensures.value c.in_ok-left.ensures.1,
     ) keep
+
+pub returns-then-count-limit-clause-kept : goal.returns-then-count-limit-clause-kept
+returns-then-count-limit-clause-kept c = folded-kept c.args.directories.items c.args.directories.items (nothing_folded c.args.directories.items)
+
+pub returns-clause-kept : goal.returns-clause-kept
+returns-clause-kept c =
+    folded-kept c.args.directories.items c.in_ok-left.left.items (
+      is_marked c.in_ok-gone.gone.items,
+      c.in_ok-left.ensures.0,
+      subst (λ (ds : List Directory). AreGone ds (is_marked c.in_ok-gone.gone.items)) c.deref-2.ensures.value c.in_ok-gone.ensures.gone,
+      subst (λ (gone : List Bool). HasLeft c.args.directories.items c.in_ok-left.left.items (is_marked gone) c.in_ok-left.ensures.0) c.deref-3.ensures.value c.in_ok-left.ensures.1,
+    )

@@ -24,7 +24,8 @@ returns c =
     rw (c.as_slice-before.ensures.value, c.as_slice-at_home.ensures.value) at c.in_ok-writes.ensures.sums in
     let many : (i : ℕ) → i < length ds → slice_index inodes i ≡ brought (inodes_at ds) (slice_index homes) (length ds) i =
     rw (c.as_slice-before.ensures.value, c.as_slice-at_home.ensures.value) at c.in_ok-inodes.ensures.sums in
-    let ups : (i : ℕ) → i < length ds → slice_index parents i ≡ kept_below (is_marked gone) (parent_at ds i) = rw c.as_slice-before.ensures.value at c.in_ok-parents.ensures.parents in
+    let ups : (i : ℕ) → i < length ds → slice_index parents i ≡ kept_below (is_marked gone) (slice_index homes (parent_at ds i)) =
+    rw (c.as_slice-before.ensures.value, c.as_slice-at_home.ensures.value) at c.in_ok-parents.ensures.parents in
     let count : kept ≡ kept_below (is_marked gone) (length ds) = rw c.deref_mut.ensures.value at c.close_up-kept.ensures.count in
     let closes : (i : ℕ) → i < length ds → is_marked gone i ≡ false → slice_get closed (kept_below (is_marked gone) i) ≡ put_together ds parents heats writes inodes i =
     rw (c.deref_mut.ensures.value, c.deref.ensures.value, c.deref-2.ensures.value, c.deref-3.ensures.value, c.deref-4.ensures.value) at c.close_up-kept.ensures.kept in

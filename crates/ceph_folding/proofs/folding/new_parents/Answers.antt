@@ -20,28 +20,32 @@ index-requires c =
     let up : c.index-directories-at.result.parent ≤ at =
     subst (λ (o : Option Directory). option_map_or (λ (one : Directory). one.parent) o 0 ≤ at) read (parent_le ds at c.requires.first inside) in
     let size : length ds ≡ vec_len c.in_ok-places.places = sym (c.in_ok-places.places.ok.0 ∙ (c.in_ok-places.ensures.size ∙ c.requires.size)) in
-    subst (λ (n : ℕ). c.index-directories-at.result.parent < n) size (le_trans (suc-le-suc up) inside)
+    let home : slice_index c.args.homes.now c.index-directories-at.result.parent < length ds = c.requires.inside c.index-directories-at.result.parent (le_trans (suc-le-suc up) inside) in
+    subst (λ (n : ℕ). slice_index c.args.homes.now c.index-directories-at.result.parent < n) size home
 
 pub loop-at-preserved : goal.loop-at-preserved
 loop-at-preserved c =
     let ds : List Directory = c.args.directories.now in
     let gone : List Bool = c.args.gone.now in
+    let homes : List ℕ = c.args.homes.now in
     let places : List ℕ = c.in_ok-places.places.items in
     let parents : List ℕ = c.loop-at.parents.items in
     let at : ℕ = c.loop-at.at in
-    let new : ℕ → ℕ = λ i. kept_below (is_marked gone) (parent_at ds i) in
+    let new : ℕ → ℕ = λ i. kept_below (is_marked gone) (slice_index homes (parent_at ds i)) in
     let place : ℕ = c.index.result.now in
     let pushed : c.push.new.self.items ≡ parents ++ place ∷ [] = c.in_ok-push.ensures.items in
     let inside : at < length ds = omega arith in
     let read : slice_get ds at ≡ Some c.index-directories-at.result = slice_get_read ds (length ds) at c.index-directories-at.result refl inside c.index-directories-at.is in
     let above : parent_at ds at ≡ c.index-directories-at.result.parent = ap (λ (o : Option Directory). option_map_or (λ (one : Directory). one.parent) o 0) read in
     let up : parent_at ds at ≤ at = parent_le ds at c.requires.first inside in
-    let marked : parent_at ds at < length gone = omega (arith, up, inside, c.requires.size) in
-    let there : c.index-directories-at.result.parent < length places = omega (arith, above, marked, c.in_ok-places.ensures.size) in
+    let home : slice_index homes (parent_at ds at) < length ds = c.requires.inside (parent_at ds at) (omega (arith, up, inside)) in
+    let marked : slice_index homes (parent_at ds at) < length gone = omega (arith, home, c.requires.size) in
+    let there : slice_index homes c.index-directories-at.result.parent < length places =
+    subst (λ (k : ℕ). slice_index homes k < length places) above (omega (arith, marked, c.in_ok-places.ensures.size)) in
     let here : place ≡ new at =
     get_or_read places _ _ there c.index.ensures 0
-    ∙ ap (slice_index places) (sym above)
-    ∙ c.in_ok-places.ensures.places (parent_at ds at) marked in
+    ∙ ap (λ (k : ℕ). slice_index places (slice_index homes k)) (sym above)
+    ∙ c.in_ok-places.ensures.places (slice_index homes (parent_at ds at)) marked in
     record {
       size = ap length pushed ∙ (length_push parents place ∙ ap (λ (n : ℕ). n + 1) c.loop-at.invariant.size);
       parents = subst (λ (xs : List ℕ). (i : ℕ) → i < at + 1 → slice_index xs i ≡ new i) (sym pushed)

@@ -4,7 +4,7 @@ use Rattle.ceph_snapshot.specs.declared.directory.Directory.{Directory}
 use Rattle.ceph_snapshot.specs.Holding.{AreParentsFirst, is_marked}
 use Rattle.ceph_snapshot.specs.Policies.{HasBeaten, kept_where}
 use Rattle.ceph_snapshot.proofs.Beaten.{are_kept}
-use Rattle.ceph_snapshot.proofs.Owners.{owner_kept}
+use Rattle.ceph_snapshot.proofs.Owners.{numbers_kept, owner_kept}
 use Rattle.ceph_snapshot.proofs.policies.keep.Goals as goal
 
 pub returns-clause-kept : goal.returns-clause-kept
@@ -22,4 +22,12 @@ returns-clause-owner c =
     let new : List Directory = c.mark_kept.new.directories.items in
     let marks : List Bool = c.in_ok-above.above.items in
     owner_kept old new marks c.mark_kept.ensures.size
+    (subst (λ (bs : List Bool). (i : ℕ) → i < length old → slice_get new i ≡ option_map (kept_where (is_marked bs i)) (slice_get old i)) c.as_slice-2.ensures.value c.mark_kept.ensures.kept)
+
+pub returns-clause-numbers : goal.returns-clause-numbers
+returns-clause-numbers c =
+    let old : List Directory = c.args.directories.now.items in
+    let new : List Directory = c.mark_kept.new.directories.items in
+    let marks : List Bool = c.in_ok-above.above.items in
+    numbers_kept old new marks c.mark_kept.ensures.size
     (subst (λ (bs : List Bool). (i : ℕ) → i < length old → slice_get new i ≡ option_map (kept_where (is_marked bs i)) (slice_get old i)) c.as_slice-2.ensures.value c.mark_kept.ensures.kept)

@@ -21,4 +21,5 @@ loop-fragment-preserved c =
           ∙ ap (λ (hs : List PathHeat). c.args.self.now.tree.seen ++ hs) (sym (seen_more c.args.rank loads at one inside (sym c.fragment-item.is)))));
       told = still_both c.args.self.now.tree.nodes c.loop-fragment.self.tree.nodes c.see.new.self.nodes c.loop-fragment.invariant.told c.in_ok-see.ensures.kept;
       listed = c.loop-fragment.invariant.listed;
+      numbered = c.loop-fragment.invariant.numbered;
     }

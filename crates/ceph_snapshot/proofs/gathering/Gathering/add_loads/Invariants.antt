@@ -8,4 +8,5 @@ invariant-loop-fragment l = record {
   seen : l.self.tree.seen ≡ l.fn.self.tree.seen ++ seen_in l.rank (take l.fragment-index l.loads);
   told : StillTold l.fn.self.tree.nodes l.self.tree.nodes;
   listed : l.self.is_listed ≡ l.fn.self.is_listed;
+  numbered : l.self.is_numbered ≡ l.fn.self.is_numbered;
 }

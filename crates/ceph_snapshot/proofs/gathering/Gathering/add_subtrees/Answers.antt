@@ -34,6 +34,7 @@ loop-root-preserved c =
           (filtered_more (Root c.args.rank) (λ root. is_user_path root.path.items) facts roots at c.root-item.result inside c.root-item.is)
           (c.in_ok-add_subtree.ensures.told (facts ++ roots_in c.args.rank (take at roots)) (c.loop-root.invariant.told facts before));
       listed = c.add_subtree.ensures.listed ∙ c.loop-root.invariant.listed;
+      numbered = c.add_subtree.ensures.numbered ∙ c.loop-root.invariant.numbered;
     }
 
 pub returns-clause-claimed : goal.returns-clause-claimed

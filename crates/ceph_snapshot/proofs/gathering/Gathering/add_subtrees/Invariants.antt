@@ -12,4 +12,5 @@ invariant-loop-root l = record {
   seen : l.self.tree.seen ≡ l.fn.self.tree.seen;
   told : (facts : List Fact) → AreAsTold l.fn.self.tree.nodes facts → AreAsTold l.self.tree.nodes (facts ++ roots_in l.rank (take l.root-index l.roots));
   listed : l.self.is_listed ≡ l.fn.self.is_listed;
+  numbered : l.self.is_numbered ≡ l.fn.self.is_numbered;
 }

@@ -1,12 +1,15 @@
-use Rattle.std.proofs.Common.{◌≡◌, ◌∙◌, ℕ, All, List, Some, true, ap, get_or, rules, slice_get, subst, sym}
+use Rattle.std.proofs.Common.{◌≡◌, ◌∙◌, ◌<◌, ◌*◌, ◌&&◌, Bool, ℕ, All, List, Some, true, ap, get_or, length, map, nat_lt, refl, rules, slice_get, subst, sym}
+use Rattle.std.specs.List.{count_by}
 use Rattle.std.specs.Option.{option_map}
 use Rattle.std.proofs.lemmas.Option.{slice_get-get_or}
 use Rattle.ceph_snapshot.specs.declared.directory.Directory.{Directory}
 use Rattle.ceph_snapshot.specs.declared.tree.Node.{Node}
 use Rattle.ceph_snapshot.specs.declared.tree.Sighting.{Sighting}
 use Rattle.ceph_snapshot.specs.Authority.{LieAsClaimed, is_true_of}
-use Rattle.ceph_snapshot.specs.Gathered.{is_unknown_at, listed_at, listed_of, with_owner, with_unknown}
-use Rattle.ceph_snapshot.specs.Sightings.{LieAt, mean_account, position_of, account_of, account_at, account_by}
+use Rattle.ceph_snapshot.specs.Doubts.{have_left, is_named, is_named_doubtful, numbers_with, with_listed, with_numbers}
+use Rattle.ceph_snapshot.specs.Gathered.{is_unknown_at, listed_at, listed_of, numbers_at, numbers_of, path_pin_at, with_owner, with_unknown}
+use Rattle.ceph_snapshot.specs.Sightings.{HaveOwnPaths, LieAt, PathHeat, mean_account, position_of, account_of, account_at, account_by, with_path}
+use Rattle.ceph_snapshot.proofs.Doubtful.{left_read, number_of, number_seen, numbers_read, seen_of}
 use Rattle.ceph_snapshot.proofs.Owners.{listed_placed, owner_from_map, pin_placed, account_placed}
 use Rattle.ceph_snapshot.proofs.Parents.{snapshot_of}
 use Rattle.ceph_snapshot.proofs.Sighted.{at_map, seen_at}
@@ -44,7 +47,7 @@ returns-clause-seen c = λ i d l.
     subst (λ (those : List Sighting). account_at counted i ≡ option_map (λ (n : Node). account_by i those n.directory) (slice_get held i)) c.as_slice-4.ensures.value (c.in_ok-spread.ensures.account i) in
     seen_at nodes (slice_get held i) (slice_get counted i) i c.args.samples (get_or ds i d) ss c.args.self.tree.seen c.into_parts-nodes.ensures.seen c.into_parts-nodes.ensures.apart c.into_parts-nodes.ensures.inside
     (c.hold_tops.ensures.account i ∙ account_placed nodes placed claimed i)
-    (sym (ap (option_map account_of) here) ∙ (c.in_ok-keep.ensures.account i ∙ at_map account_of (λ (n : Node). mean_account c.args.samples (account_of n.directory)) c.in_ok-directories.directories.items counted c.in_ok-directories.ensures.account i))
+    (sym (ap (option_map account_of) here) ∙ (c.in_ok-keep.ensures.account i ∙ at_map account_of (λ (n : Node). with_listed n.listed (mean_account c.args.samples (account_of n.directory))) c.in_ok-directories.directories.items counted c.in_ok-directories.ensures.account i))
     all
     (sym (ap (option_map position_of) here)
     ∙ (c.in_ok-keep.ensures.place i ∙ (at_map position_of (λ (n : Node). position_of n.directory) c.in_ok-directories.directories.items counted c.in_ok-directories.ensures.place i ∙ c.see_all.ensures.place i)))
@@ -75,3 +78,61 @@ returns-clause-snapshot c =
     let nodes : List Node = c.args.self.tree.nodes in
     let placed : List Node = c.place_all.new.nodes.items in
     snapshot_of nodes placed (record { directories = c.keep.new.directories; spread = c.in_ok-spread.spread }) c.args.own.now c.args.ranks c.into_parts-nodes.ensures.below (returns-clause-authority c).1 (returns-clause-authority c).3 (returns-clause-owner c) c.in_ok-keep.ensures.kept c.in_ok-spread.ensures.spread
+
+-- of each directory, the number that dumps name is counted, and the listed one is as it was
+all_seen : (nodes held counted : List Node) (ss : List Sighting) (seen : List PathHeat) → map (with_path nodes) ss ≡ seen → HaveOwnPaths nodes → All (λ (s : Sighting). s.directory < length nodes) ss
+    → ((i : ℕ) → path_pin_at counted i ≡ path_pin_at nodes i) → ((i : ℕ) → account_at counted i ≡ option_map (λ (n : Node). account_by i ss n.directory) (slice_get held i))
+    → (i : ℕ) → option_map number_of (slice_get counted i) ≡ option_map (seen_of seen) (slice_get nodes i)
+all_seen nodes held counted ss seen is apart inside pins all i =
+    number_seen nodes i (slice_get counted i) (slice_get held i) (slice_get nodes i) ss seen is apart inside refl (pins i) (all i)
+
+left_is : (numbered left : Bool) (seen : List PathHeat) (counted nodes : List Node) → ((i : ℕ) → option_map number_of (slice_get counted i) ≡ option_map (seen_of seen) (slice_get nodes i))
+    → (those : List Node) → those ≡ counted → left ≡ (numbered && nat_lt (count_by is_named those) (2 * count_by is_named_doubtful those)) → left ≡ have_left numbered seen nodes
+left_is numbered left seen counted nodes all those same is =
+    is ∙ (ap (λ (ns : List Node). numbered && nat_lt (count_by is_named ns) (2 * count_by is_named_doubtful ns)) same ∙ left_read numbered seen counted nodes all)
+
+pub returns-clause-numbers : goal.returns-clause-numbers
+returns-clause-numbers c = λ i.
+    let nodes : List Node = c.args.self.tree.nodes in
+    let counted : List Node = c.see_all.new.nodes.items in
+    let ss : List Sighting = c.into_parts-nodes.result.1.items in
+    let seen : List PathHeat = c.args.self.tree.seen in
+    let numbered : Bool = c.args.self.is_numbered in
+    let claimed : LieAsClaimed nodes c.place_all.new.nodes.items = subst (λ (ns : List Node). LieAsClaimed ns c.place_all.new.nodes.items) c.into_parts-nodes.ensures.nodes c.place_all.ensures in
+    let all : (j : ℕ) → account_at counted j ≡ option_map (λ (n : Node). account_by j ss n.directory) (slice_get c.hold_tops.new.nodes.items j) =
+    subst (λ (those : List Sighting). (j : ℕ) → account_at counted j ≡ option_map (λ (n : Node). account_by j those n.directory) (slice_get c.hold_tops.new.nodes.items j)) c.as_slice-4.ensures.value c.in_ok-spread.ensures.account in
+    c.in_ok-keep.ensures.numbers i
+    ∙ (at_map numbers_of (numbers_with numbered) c.in_ok-directories.directories.items counted c.in_ok-directories.ensures.numbers i
+    ∙ numbers_read numbered seen (slice_get counted i) (slice_get nodes i)
+    (all_seen nodes c.hold_tops.new.nodes.items counted ss seen c.into_parts-nodes.ensures.seen c.into_parts-nodes.ensures.apart c.into_parts-nodes.ensures.inside
+    (λ j. c.see_all.ensures.pinned j ∙ (c.hold_tops.ensures.pinned j ∙ pin_placed nodes c.place_all.new.nodes.items claimed j)) all i))
+
+pub returns-clause-here : goal.returns-clause-here
+returns-clause-here c = λ _.
+    let nodes : List Node = c.args.self.tree.nodes in
+    let counted : List Node = c.see_all.new.nodes.items in
+    let ss : List Sighting = c.into_parts-nodes.result.1.items in
+    let seen : List PathHeat = c.args.self.tree.seen in
+    let claimed : LieAsClaimed nodes c.place_all.new.nodes.items = subst (λ (ns : List Node). LieAsClaimed ns c.place_all.new.nodes.items) c.into_parts-nodes.ensures.nodes c.place_all.ensures in
+    let all : (j : ℕ) → account_at counted j ≡ option_map (λ (n : Node). account_by j ss n.directory) (slice_get c.hold_tops.new.nodes.items j) =
+    subst (λ (those : List Sighting). (j : ℕ) → account_at counted j ≡ option_map (λ (n : Node). account_by j those n.directory) (slice_get c.hold_tops.new.nodes.items j)) c.as_slice-4.ensures.value c.in_ok-spread.ensures.account in
+    sym (left_is c.args.self.is_numbered c.have_left.result seen counted nodes
+    (all_seen nodes c.hold_tops.new.nodes.items counted ss seen c.into_parts-nodes.ensures.seen c.into_parts-nodes.ensures.apart c.into_parts-nodes.ensures.inside
+    (λ j. c.see_all.ensures.pinned j ∙ (c.hold_tops.ensures.pinned j ∙ pin_placed nodes c.place_all.new.nodes.items claimed j)) all)
+    c.deref.result.now c.deref.ensures.value c.have_left.ensures)
+    ∙ c.if-have_left.false
+
+pub returns-then-have_left-clause-elsewhere : goal.returns-then-have_left-clause-elsewhere
+returns-then-have_left-clause-elsewhere c = λ _.
+    let nodes : List Node = c.args.self.tree.nodes in
+    let counted : List Node = c.see_all.new.nodes.items in
+    let ss : List Sighting = c.into_parts-nodes.result.1.items in
+    let seen : List PathHeat = c.args.self.tree.seen in
+    let claimed : LieAsClaimed nodes c.place_all.new.nodes.items = subst (λ (ns : List Node). LieAsClaimed ns c.place_all.new.nodes.items) c.into_parts-nodes.ensures.nodes c.place_all.ensures in
+    let all : (j : ℕ) → account_at counted j ≡ option_map (λ (n : Node). account_by j ss n.directory) (slice_get c.hold_tops.new.nodes.items j) =
+    subst (λ (those : List Sighting). (j : ℕ) → account_at counted j ≡ option_map (λ (n : Node). account_by j those n.directory) (slice_get c.hold_tops.new.nodes.items j)) c.as_slice-4.ensures.value c.in_ok-spread.ensures.account in
+    sym (left_is c.args.self.is_numbered c.have_left.result seen counted nodes
+    (all_seen nodes c.hold_tops.new.nodes.items counted ss seen c.into_parts-nodes.ensures.seen c.into_parts-nodes.ensures.apart c.into_parts-nodes.ensures.inside
+    (λ j. c.see_all.ensures.pinned j ∙ (c.hold_tops.ensures.pinned j ∙ pin_placed nodes c.place_all.new.nodes.items claimed j)) all)
+    c.deref.result.now c.deref.ensures.value c.have_left.ensures)
+    ∙ c.if-have_left.true

@@ -4,8 +4,8 @@ use Rattle.ceph_dumps.specs.declared.listing.ListedDir.{ListedDir}
 use Rattle.ceph_snapshot.specs.Authority.{is_user_path}
 use Rattle.ceph_snapshot.specs.Facts.{AreAsTold, Fact, Value, values_in}
 use Rattle.ceph_snapshot.proofs.Told.{filtered_more}
-use Rattle.ceph_snapshot.proofs.gathering.Gathering.add_listing.Goals as goal
-use Rattle.ceph_snapshot.proofs.gathering.Gathering.add_listing.Goals.{in-Some, in_default}
+use Rattle.ceph_snapshot.proofs.gathering.Gathering.add_values.Goals as goal
+use Rattle.ceph_snapshot.proofs.gathering.Gathering.add_values.Goals.{in-Some, in_default}
 
 pub loop-listed-preserved : goal.loop-listed-preserved
 loop-listed-preserved c =
@@ -29,6 +29,7 @@ loop-listed-preserved c =
                 rw (w.self-is, user, append-nil) (c.in_ok-number.ensures.kept.told (facts ++ now) (c.loop-listed.invariant.told facts before))
           ]);
       listed = search rules;
+      numbered = search rules;
     }
 
 pub returns-clause-told : goal.returns-clause-told
