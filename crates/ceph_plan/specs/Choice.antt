@@ -152,3 +152,16 @@ pub record IsPlanChoice (ranks : ℕ) (pinned : List ℕ) (rows : List ProblemRo
   pub divisions : List PackedDivision
   pub tried : AreTried ranks pinned rows wanted.parts divisions
   pub taken : IsTaken wanted.keep divisions found
+
+-- a load that passes by at most `keep` percent the greatest load of the coolest packing by heat only, of all divisions
+pub record IsLimit (keep : ℕ) (divisions : List PackedDivision) (limit : ℕ) : Type 0 where
+  pub coolest : ℕ
+  pub has : coolest < length divisions
+  pub least : (j : ℕ) → j < length divisions → even_at divisions coolest ≤ even_at divisions j
+  pub is : limit ≡ allowed keep (even_at divisions coolest)
+
+-- what is planned, and the limit that it is within
+pub record IsLimitedChoice (ranks : ℕ) (pinned : List ℕ) (rows : List ProblemRow) (wanted : Wanted) (limit : ℕ)
+    (found : Planned) : Type 0 where
+  pub choice : IsPlanChoice ranks pinned rows wanted found
+  pub limit_is : IsLimit wanted.keep choice.divisions limit

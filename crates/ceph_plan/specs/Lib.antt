@@ -1,9 +1,11 @@
 pub mod Asked
 pub mod Balance
+pub mod Candidates
 pub mod Changes
 pub mod Choice
 pub mod Holds
 pub mod Packing
+pub mod Placements
 pub mod Plans
 pub mod Proposals
 pub mod Refusals

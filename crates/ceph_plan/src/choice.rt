@@ -4,8 +4,8 @@ ghost use Rattle.std.specs.Prelude.{◌≡◌, ◌<◌, ◌≤◌, ◌+◌, ◌�
 ghost use Rattle.mds_types.specs.RankSet.{rank_count};
 ghost use Rattle.ceph_plan.specs.Balance.{allowed};
 ghost use Rattle.ceph_plan.specs.Choice.{AreCool, AreTried, AreWeighed, IsChosen, IsDividedOnce, IsFewer, IsPlace};
-ghost use Rattle.ceph_plan.specs.Choice.{IsPlanChoice, IsTaken, even_at, gap, greatest_in, moved_in, packings_at};
-ghost use Rattle.ceph_plan.specs.Choice.{part_count_at, size_of};
+ghost use Rattle.ceph_plan.specs.Choice.{IsLimitedChoice, IsPlanChoice, IsTaken, even_at, gap, greatest_in, moved_in};
+ghost use Rattle.ceph_plan.specs.Choice.{packings_at, part_count_at, size_of};
 ghost use Rattle.ceph_plan.specs.Refusals.{IsCountRefusal, IsPartsRefusal, IsPlanRefusal};
 
 use crate::bound::total_heat;
@@ -19,7 +19,7 @@ use std::alloc::Global;
 #[derive(Clone, Copy)]
 pub enum PartCount {
     /// As many as give the plan that moves the fewest inodes, of those that are cool enough. At most this many, or as
-    /// many as there are ranks.
+    /// many as there are ranks, are tried. `propose` takes no plan with more pins of ours than this, if it has another.
     Auto(u16),
     /// At most this many.
     AtMost(u16),
@@ -236,18 +236,24 @@ fn tried(
     }
 }
 
-/// Which rank of the set each row is to be at, in connected parts, several a rank.
-///
-/// `pinned[r]` is the heat that is held at rank r. The root's part goes to rank 0, as Ceph never moves the root:
-/// without rank 0 there is no plan.
-pub fn choose_plan(
+/// A plan of divisions, and the load that it had to be within.
+#[derive(Drop)]
+pub(crate) struct Limited {
+    /// The plan.
+    pub plan: Planned,
+    /// The greatest load that passes by at most `keep` percent that of the coolest packing by heat only.
+    pub limit: u128,
+}
+
+/// What `choose_plan` gives, with the load that it had to be within.
+pub(crate) fn choose_within(
     alloc: Global,
     rows: &[ProblemRow],
     wanted: Wanted,
     pinned: &[u64],
     ranks: RankSet,
-) -> Result<Planned, PlanError>
-    ensures chosen { IfOk result (IsPlanChoice ranks pinned.now rows.now wanted) }
+) -> Result<Limited, PlanError>
+    ensures chosen { IfOk result (λ found. IsLimitedChoice ranks pinned.now rows.now wanted found.limit found.plan) }
     // it is refused for what is wrong first
     ensures refused { IfErr result (IsPlanRefusal ranks pinned.now rows.now wanted) }
 {
@@ -271,5 +277,25 @@ pub fn choose_plan(
         ranks,
     };
     let divisions = tried(alloc, &of, wanted.parts)?;
-    Ok(taken(divisions, wanted.keep))
+    let limit = limit_of(&divisions, coolest(&divisions), wanted.keep);
+    let plan = taken(divisions, wanted.keep);
+    Ok(Limited { plan, limit })
+}
+
+/// Which rank of the set each row is to be at, in connected parts, several a rank.
+///
+/// `pinned[r]` is the heat that is held at rank r. The root's part goes to rank 0, as Ceph never moves the root:
+/// without rank 0 there is no plan.
+pub fn choose_plan(
+    alloc: Global,
+    rows: &[ProblemRow],
+    wanted: Wanted,
+    pinned: &[u64],
+    ranks: RankSet,
+) -> Result<Planned, PlanError>
+    ensures chosen { IfOk result (IsPlanChoice ranks pinned.now rows.now wanted) }
+    // it is refused for what is wrong first
+    ensures refused { IfErr result (IsPlanRefusal ranks pinned.now rows.now wanted) }
+{
+    Ok(choose_within(alloc, rows, wanted, pinned, ranks)?.plan)
 }

@@ -8,6 +8,7 @@
 #![tactic(auto)]
 
 pub mod bound;
+pub mod candidate;
 pub mod changes;
 pub mod choice;
 mod exchange;
@@ -15,9 +16,12 @@ mod gathered;
 mod hold;
 pub mod laws;
 mod loads;
+mod moving;
 mod order;
 pub mod packing;
+mod pick;
 pub mod pins;
+mod placement;
 pub mod plan;
 pub mod plan_error;
 pub mod proposal;
@@ -27,6 +31,7 @@ pub mod row;
 pub mod worth;
 
 pub use bound::{heats_bound, total_heat};
+pub use candidate::Candidate;
 pub use changes::changes_for;
 pub use choice::{PartCount, Wanted, choose_plan};
 pub use packing::{Packed, Packing, Packings, are_parts, are_pinned, pack};

@@ -63,7 +63,7 @@ pub fn are_pinned(pinned: &[u64]) -> bool
 pub const TOLERANCES: &[u8] = &[0, 1, 2, 5, 10, 20, 50, 100];
 
 /// The inodes of the rows whose part goes to another rank than the one that has them.
-fn moved(rows: &[ProblemRow], part: &[u32], rank: &[Rank]) -> u64
+pub(crate) fn moved(rows: &[ProblemRow], part: &[u32], rank: &[Rank]) -> u64
     requires { HaveParts rows.now part.now (length rank.now) }
     ensures { result ≡ moved_inodes rows.now part.now rank.now (length rows.now) }
 {

@@ -1,19 +1,19 @@
 //! The changes of export pins that bring each directory to the rank that a plan gives it.
-ghost use Rattle.std.specs.Prelude.{◌≡◌, ◌<◌, length, IfErr, IfOk};
-ghost use Rattle.mds_types.specs.Problem.{IsForest};
-ghost use Rattle.ceph_plan.specs.Asked.{ArePinRows, rest_where};
-ghost use Rattle.ceph_plan.specs.Packing.{HaveParts};
+ghost use Rattle.std.specs.Prelude.{◌≡◌, length, IfErr, IfOk};
+ghost use Rattle.ceph_plan.specs.Candidates.{AreCandidates, IsCandidateRefusal};
+ghost use Rattle.ceph_plan.specs.Placements.{IsPlacement};
 ghost use Rattle.ceph_plan.specs.Proposals.{IsProposal};
 ghost use Rattle.ceph_plan.specs.Refusals.{IsProposalRefusal};
 
+use crate::candidate::{Candidate, begun, costed};
 use crate::changes::changes_for;
-use crate::choice::{Wanted, choose_plan};
-use crate::pins::are_rows;
-use crate::plan::Planned;
+use crate::choice::{Limited, PartCount, Wanted, choose_within};
+use crate::pick::picked;
+use crate::plan::{Plannable, Planned};
 use crate::plan_error::PlanError;
 use crate::row::{PinChange, PinRow};
 use mds_types::{ProblemRow, Rank, RankSet};
-use std::alloc::{AllocError, Global};
+use std::alloc::Global;
 
 /// The pins that a directory has of its own now.
 #[derive(Clone, Copy)]
@@ -35,54 +35,43 @@ pub struct Proposal {
     pub changes: Vec<PinChange>,
 }
 
-/// Where a row is while no pin holds it, as far as that is known.
-fn rest_of(rows: &[ProblemRow], row: usize, earlier: Option<Rank>, rests: bool) -> Option<Rank>
-    requires forest { IsForest rows.now }
-    requires inside { row < length rows.now }
-    ensures { result ≡ rest_where rows.now earlier rests row }
-{
-    if row == 0 {
-        return Some(Rank::default());
-    }
-    let now = rows[row].now;
-    let above = rows[rows[row].parent as usize].now;
-    if rests && (earlier.is_none() || now == above) {
-        Some(now)
-    } else {
-        None
+/// How many pins there may be, as far as that is said.
+fn most_pins(parts: PartCount) -> usize {
+    match parts {
+        PartCount::Auto(most) | PartCount::AtMost(most) => usize::from(most),
     }
 }
 
-/// What is asked of each row: to be at the rank of its part, wherever it is now. The root is known to stay where it
-/// is, and if `rests` so are the others, but for those that an earlier pin has away from the row above.
-fn pin_rows(
+/// The plans of which one is taken, the present placement first, and one that is divided anew last.
+fn candidates(
     alloc: Global,
-    rows: &[ProblemRow],
-    part: &[u32],
-    rank: &[Rank],
+    of: &Plannable<'_>,
     own: &[OwnPins],
     rests: bool,
-) -> Result<Vec<PinRow>, AllocError>
-    requires parts { HaveParts rows.now part.now (length rank.now) }
-    requires own { length own.now ≡ length rows.now }
-    ensures { IfOk result (λ found. ArePinRows rows.now part.now rank.now own.now (length rows.now) rests
-        found.items) }
+    limit: u128,
+    parts: PartCount,
+    divided: Planned,
+) -> Result<Vec<Candidate>, PlanError>
+    requires own { length own.now ≡ length of.now.rows.now }
+    requires placed { IsPlacement of.now.ranks of.now.pinned.now of.now.rows.now divided }
+    ensures candidates { IfOk result (λ found. AreCandidates of.now.ranks of.now.pinned.now of.now.rows.now
+        own.now rests divided found.items) }
+    ensures refused { IfErr result (IsCandidateRefusal own.now) }
 {
-    let mut found = Vec::with_capacity(alloc, rows.len())?;
-    for (i, row) in rows.iter().enumerate() {
-        found.push(PinRow {
-            parent: row.parent,
-            target: rank[part[i] as usize],
-            foreign: own[i].foreign,
-            earlier: own[i].earlier,
-            rest: rest_of(rows, i, own[i].earlier, rests),
-        })?;
-    }
+    let below = if limit > u128::from(u64::MAX) {
+        u64::MAX
+    } else {
+        limit as u64
+    };
+    let mut found = begun(alloc, of, own, rests, below, most_pins(parts))?;
+    found.push(costed(alloc, of, own, rests, divided)?)?;
     Ok(found)
 }
 
-/// Plans which rank each row is to be at, as `choose_plan` does, and gives the changes of pins that bring it there:
-/// wherever it is now, or with what has no pin staying where it is. `own[i]` are row i's own pins.
+/// Plans which rank each row is to be at, and gives the changes of pins that bring it there: wherever it is now, or
+/// with what has no pin staying where it is. `own[i]` are row i's own pins.
+///
+/// The plan is the present placement, one that moves directories from where they are, or that of `choose_plan`.
 pub fn propose(
     alloc: Global,
     rows: &[ProblemRow],
@@ -95,22 +84,19 @@ pub fn propose(
     ensures proposal { IfOk result (IsProposal ranks pinned.now rows.now wanted own.now) }
     ensures refused { IfErr result (IsProposalRefusal ranks pinned.now rows.now wanted own.now) }
 {
-    let plan = choose_plan(alloc, rows, wanted, pinned, ranks)?;
-    let asked = pin_rows(
-        alloc,
+    let Limited { plan, limit } = choose_within(alloc, rows, wanted, pinned, ranks)?;
+    let of = Plannable {
         rows,
-        &plan.part,
-        &plan.packing.rank,
-        own,
-        wanted.rests,
-    )?;
-    if !are_rows(&asked) {
-        return Err(PlanError::PinnedRoot);
-    }
-    let changes = changes_for(alloc, &asked)?;
+        pinned,
+        ranks,
+    };
+    let mut found = candidates(alloc, &of, own, wanted.rests, limit, wanted.parts, plan)?;
+    let at = picked(&found, wanted.parts, limit);
+    let taken = found.swap_remove(at);
+    let changes = changes_for(alloc, &taken.rows)?;
     Ok(Proposal {
-        plan,
-        rows: asked,
+        plan: taken.plan,
+        rows: taken.rows,
         changes,
     })
 }

@@ -1,51 +1,49 @@
-use Rattle.std.proofs.Common.{◌≡◌, ◌∙◌, ℕ, List, None, ap, inl, length, refl, subst, sym}
-use Rattle.std.proofs.lemmas.Bool.{both_ways}
+use Rattle.std.proofs.Common.{◌≡◌, ◌<◌, ℕ, List, Some, length, refl, subst, sym}
+use Rattle.std.proofs.lemmas.Option.{slice_get_read}
+use Rattle.std.proofs.lemmas.Result.{err_from_is_err_and}
+use Rattle.std.specs.List.{slice_get}
 use Rattle.mds_types.specs.declared.problem.ProblemRow.{ProblemRow}
-use Rattle.ceph_plan.specs.declared.plan.Planned.{Planned}
+use Rattle.ceph_plan.specs.declared.candidate.Candidate.{Candidate}
 use Rattle.ceph_plan.specs.declared.proposal.OwnPins.{OwnPins}
-use Rattle.ceph_plan.specs.declared.row.PinChange.{PinChange}
 use Rattle.ceph_plan.specs.declared.row.PinRow.{PinRow}
-use Rattle.ceph_plan.specs.Packing.{HaveParts}
-use Rattle.ceph_plan.specs.Rule.{AreRows}
+use Rattle.ceph_plan.specs.Candidates.{IsPicked}
 use Rattle.ceph_plan.specs.Changes.{AreChangesFor}
-use Rattle.ceph_plan.specs.Asked.{ArePinRows, own_at}
-use Rattle.ceph_plan.proofs.AskedRows.{asked-rows, same-asked}
+use Rattle.ceph_plan.specs.Rule.{AreRows}
+use Rattle.ceph_plan.proofs.Proposed.{candidate-at, plan-placed, proposed, refused-proposal, some-candidate}
 use Rattle.ceph_plan.proofs.proposal.propose.Goals as goal
 
-pub pin_rows-requires-clause-parts : goal.pin_rows-requires-clause-parts
-pin_rows-requires-clause-parts c =
-    let plan = c.in_ok-plan.ensures.chosen.plan in
-    subst (HaveParts c.args.rows.now c.deref.result.now) (sym (ap length c.deref-2.ensures.value ∙ plan.packing.size))
-    (subst (λ (part : List ℕ). HaveParts c.args.rows.now part c.in_ok-plan.plan.count) (sym c.deref.ensures.value)
-    (record { forest = plan.forest; size = plan.size; below = plan.division.below }))
+pub candidates-requires-clause-placed : goal.candidates-requires-clause-placed
+candidates-requires-clause-placed c = plan-placed c.args.ranks c.args.pinned.now c.args.rows.now c.in_ok-plan.field-0.plan c.in_ok-plan.ensures.chosen.choice.plan
+
+pub picked-at-requires : goal.picked-at-requires
+picked-at-requires c =
+    subst (λ (xs : List Candidate). 0 < length xs) (sym c.deref.ensures.value)
+    (some-candidate c.args.ranks c.args.pinned.now c.args.rows.now c.args.own.now c.args.wanted.rests c.in_ok-plan.field-0.plan c.in_ok-found.found.items c.in_ok-found.ensures.candidates)
 
 pub changes_for-requires : goal.changes_for-requires
-changes_for-requires c = subst AreRows (c.deref-3.ensures.value ∙ sym c.deref-4.ensures.value) (c.if-not-are_rows.ensures.rows refl)
+changes_for-requires c =
+    let candidates : List Candidate = c.in_ok-found.found.items in
+    let taken : Candidate = c.swap_remove-taken.result in
+    let k : ℕ = c.picked-at.result in
+    let inside : k < length candidates = subst (λ (xs : List Candidate). k < length xs) c.deref.ensures.value c.picked-at.ensures.inside in
+    let there : slice_get candidates k ≡ Some taken = slice_get_read candidates (length candidates) k taken refl inside c.swap_remove-taken.ensures.value in
+    subst AreRows (sym c.deref-2.ensures.value) (candidate-at c.args.ranks c.args.pinned.now c.args.rows.now c.args.own.now c.args.wanted.rests c.in_ok-plan.field-0.plan candidates k taken c.in_ok-found.ensures.candidates there).rows_are
 
-pub returns-then-not-are_rows-clause-refused : goal.returns-then-not-are_rows-clause-refused
-returns-then-not-are_rows-clause-refused c =
-    let rows : List ProblemRow = c.args.rows.now in
-    let plan : Planned = c.in_ok-plan.plan in
-    let own : List OwnPins = c.args.own.now in
-    let asked : List PinRow = c.in_ok-asked.asked.items in
-    let are : ArePinRows rows plan.part.items plan.packing.rank.items own (length rows) c.args.wanted.rests asked =
-    same-asked rows plan.part.items _ plan.packing.rank.items _ own (length rows) c.args.wanted.rests asked c.deref.ensures.value c.deref-2.ensures.value c.in_ok-asked.ensures in
-    inl (
-      refl,
-      λ (free : (own_at own 0).foreign ≡ None).
-          let fit : AreRows asked =
-          asked-rows rows plan.part.items plan.packing.rank.items own c.args.wanted.rests asked c.in_ok-plan.ensures.chosen.plan.forest c.in_ok-plan.ensures.chosen.plan.packing.root are free in
-          both_ways c.are_rows.result c.if-not-are_rows.true (c.are_rows.ensures.only (subst AreRows (sym c.deref-3.ensures.value) fit)),
-    )
+pub returns-in_err-found-clause-refused : goal.returns-in_err-found-clause-refused
+returns-in_err-found-clause-refused c =
+    let e = err_from_is_err_and c.from_residual-in_err-found.result c.from_residual-in_err-found.ensures.1 in
+    rw (e.1, e.2) (refused-proposal c.args.ranks c.args.pinned.now c.args.rows.now c.args.wanted c.args.own.now _ c.in_ok-plan.ensures.chosen.choice.plannable c.in_err-found.ensures.refused)
 
 pub returns-clause-proposal : goal.returns-clause-proposal
 returns-clause-proposal c =
+    let ranks : ℕ = c.args.ranks in
     let rows : List ProblemRow = c.args.rows.now in
-    let plan : Planned = c.in_ok-plan.plan in
-    let changes : List PinChange = c.in_ok-changes.changes.items in
-    record {
-      chosen = c.in_ok-plan.ensures.chosen;
-      targets = same-asked rows plan.part.items _ plan.packing.rank.items _ c.args.own.now (length rows) c.args.wanted.rests c.in_ok-asked.asked.items
-          c.deref.ensures.value c.deref-2.ensures.value c.in_ok-asked.ensures;
-      changes = subst (λ (asked : List PinRow). AreChangesFor asked changes) c.deref-4.ensures.value c.in_ok-changes.ensures;
-    }
+    let own : List OwnPins = c.args.own.now in
+    let candidates : List Candidate = c.in_ok-found.found.items in
+    let taken : Candidate = c.swap_remove-taken.result in
+    let k : ℕ = c.picked-at.result in
+    let inside : k < length candidates = subst (λ (xs : List Candidate). k < length xs) c.deref.ensures.value c.picked-at.ensures.inside in
+    let there : slice_get candidates k ≡ Some taken = slice_get_read candidates (length candidates) k taken refl inside c.swap_remove-taken.ensures.value in
+    proposed ranks c.args.pinned.now rows c.args.wanted own c.in_ok-plan.field-0.limit k c.in_ok-plan.field-0.plan candidates taken _ c.in_ok-plan.ensures.chosen c.in_ok-found.ensures.candidates
+    there (subst (λ (xs : List Candidate). IsPicked c.in_ok-plan.field-0.limit c.args.wanted.parts xs k) c.deref.ensures.value c.picked-at.ensures.picked) refl refl
+    (subst (λ (xs : List PinRow). AreChangesFor xs c.in_ok-changes.changes.items) c.deref-2.ensures.value c.in_ok-changes.ensures)

@@ -1,14 +1,15 @@
-use Rattle.std.proofs.Common.{◌≡◌, ◌≢◌, ◌<◌, ◌==◌, ◌∙◌, ℕ, Bool, false, true, List, length, ap, arith, refl, subst, sym}
+use Rattle.std.proofs.Common.{◌≡◌, ◌≢◌, ◌<◌, ◌≤◌, ◌==◌, ◌∙◌, ℕ, Bool, false, true, List, length, ap, arith, refl, subst, sym}
 use Rattle.std.proofs.lemmas.Bool.{eqb-false}
 use Rattle.mds_types.specs.Problem.{ProblemData}
 use Rattle.mds_types.specs.RankSet.{has_rank}
 use Rattle.mds_types.specs.declared.problem.ProblemRow.{ProblemRow}
 use Rattle.ceph_plan.specs.declared.plan.PackedDivision.{PackedDivision}
-use Rattle.ceph_plan.specs.Choice.{AreTried}
+use Rattle.ceph_plan.specs.Balance.{allowed}
+use Rattle.ceph_plan.specs.Choice.{AreTried, even_at}
 use Rattle.ceph_plan.specs.Packing.{IsPinnedHeat}
 use Rattle.ceph_plan.specs.Refusals.{IsPlannable}
 use Rattle.ceph_plan.proofs.Taken.{are-cool, divisions-tried, plan-taken}
-use Rattle.ceph_plan.proofs.choice.choose_plan.Goals as goal
+use Rattle.ceph_plan.proofs.choice.choose_within.Goals as goal
 
 positive : (n : ℕ) → (n == 0) ≡ false → 0 < n
 positive n is = let some : n ≢ 0 = eqb-false n 0 is in omega arith
@@ -26,8 +27,8 @@ invariant_of-of-clause-able c =
     c.has.ensures c.if-not-has.false c.is_empty.ensures c.if-is_empty.false (c.if-not-are_pinned.ensures.0 refl)
     (c.rows-rows.ensures.value ∙ (ap (λ (problem : ProblemData). problem.rows) c.in-Ok.ensures.ok ∙ c.in_ok-to_vec.ensures.items_if_clones_equal (λ x y is. is)))
 
-pub taken-requires : goal.taken-requires
-taken-requires c = are-cool c.args.ranks c.args.pinned.now c.rows-rows.result.now c.args.wanted.parts c.in_ok-divisions.divisions.items c.in_ok-divisions.ensures.tried
+pub taken-plan-requires : goal.taken-plan-requires
+taken-plan-requires c = are-cool c.args.ranks c.args.pinned.now c.rows-rows.result.now c.args.wanted.parts c.in_ok-divisions.divisions.items c.in_ok-divisions.ensures.tried
 
 pub returns-clause-chosen : goal.returns-clause-chosen
 returns-clause-chosen c =
@@ -40,11 +41,19 @@ returns-clause-chosen c =
     (c.rows-rows.ensures.value ∙ (ap (λ (problem : ProblemData). problem.rows) c.in-Ok.ensures.ok ∙ c.in_ok-to_vec.ensures.items_if_clones_equal (λ x y is. is)))
     c.in_ok-divisions.ensures.tried in
     record {
-      plannable =
-          plannable ranks pinned rows rows c.default.result c.has.result c.is_empty.result (sym c.default.ensures.1 ∙ c.default.ensures.2)
-          c.has.ensures c.if-not-has.false c.is_empty.ensures c.if-is_empty.false (c.if-not-are_pinned.ensures.0 refl) refl;
-      plan = plan-taken ranks c.args.wanted.keep pinned rows divisions c.taken.result (divisions-tried ranks pinned rows c.args.wanted.parts divisions tried) c.taken.ensures;
-      divisions = divisions;
-      tried = tried;
-      taken = c.taken.ensures;
+      choice = record {
+        plannable =
+            plannable ranks pinned rows rows c.default.result c.has.result c.is_empty.result (sym c.default.ensures.1 ∙ c.default.ensures.2)
+            c.has.ensures c.if-not-has.false c.is_empty.ensures c.if-is_empty.false (c.if-not-are_pinned.ensures.0 refl) refl;
+        plan = plan-taken ranks c.args.wanted.keep pinned rows divisions c.taken-plan.result (divisions-tried ranks pinned rows c.args.wanted.parts divisions tried) c.taken-plan.ensures;
+        divisions = divisions;
+        tried = tried;
+        taken = c.taken-plan.ensures;
+      };
+      limit_is = record {
+        coolest = c.coolest.result;
+        has = subst (λ (those : List PackedDivision). c.coolest.result < length those) c.deref-2.ensures.value c.coolest.ensures.inside;
+        least = subst (λ (those : List PackedDivision). (j : ℕ) → j < length those → even_at those c.coolest.result ≤ even_at those j) c.deref-2.ensures.value c.coolest.ensures.least;
+        is = c.limit_of-limit.ensures ∙ ap (λ (those : List PackedDivision). allowed c.args.wanted.keep (even_at those c.coolest.result)) c.deref.ensures.value;
+      };
     }

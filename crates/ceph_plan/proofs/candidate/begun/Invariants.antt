@@ -1,0 +1,5 @@
+use Rattle.ceph_plan.specs.Candidates.{AreBegun}
+use Rattle.ceph_plan.proofs.candidate.begun.Given as goal
+
+abbrev pub invariant-loop-first : goal.invariant-loop-first
+invariant-loop-first l = AreBegun l.of.ranks l.of.pinned.now l.of.rows.now l.own l.rests l.found.items
