@@ -1,6 +1,6 @@
 -- The script that sets pins, byte by byte.
-use Rattle.std.specs.Prelude.{◌<◌, ◌++◌, All, ℕ, Bool, not, List, [], ◌∷◌, codes, length, slice_get, Option}
-use Rattle.std.specs.Prelude.{is_some, if◌then◌else◌}
+use Rattle.std.specs.Prelude.{◌<◌, ◌++◌, All, ℕ, Bool, not, List, [], ◌∷◌, codes, decimal, length, slice_get}
+use Rattle.std.specs.Prelude.{Option, Some, None, is_some, if◌then◌else◌}
 use Rattle.std.specs.List.{flat_map, list_any}
 use Rattle.std.specs.Option.{option_map_or, unwrap_or}
 use Rattle.ceph_plan.specs.Words.{quoted_word}
@@ -13,10 +13,23 @@ use Rattle.ceph_pins.specs.Volumes.{ceph_line, pin_text}
 abbrev pub path_at : List Directory → ℕ → List ℕ
 path_at directories i = option_map_or (λ (d : Directory). d.path.items) (slice_get directories i) []
 
--- the line that gives the directory at this place this pin
-abbrev pub pin_line : Option ℕ → List ℕ → List ℕ
-pin_line pin place =
-    codes "run setfattr -h -n ceph.dir.pin -v " ++ pin_text pin ++ codes " -- " ++ quoted_word place ++ 10 ∷ []
+-- the inode number of directory i, where it is known
+abbrev pub inode_of_row : List Directory → ℕ → Option ℕ
+inode_of_row directories i = option_map_or (λ (d : Directory). d.inode) (slice_get directories i) None
+
+-- the inode number that the script compares; a hyphen where none is known
+abbrev pub number_text : Option ℕ → List ℕ
+number_text None = codes "-"
+number_text (Some inode) = decimal inode
+
+-- the begin of a line: the number that is compared, and the call of setfattr
+unfoldable pub call_text : Option ℕ → List ℕ
+call_text inode = codes "run " ++ number_text inode ++ codes " setfattr -h -n ceph.dir.pin -v "
+
+-- the line that gives the directory at this place this pin, if it has this inode number
+abbrev pub pin_line : Option ℕ → Option ℕ → List ℕ → List ℕ
+pin_line inode pin place =
+    call_text inode ++ pin_text pin ++ codes " -- " ++ quoted_word place ++ 10 ∷ []
 
 -- the line of Ceph's own command for a change, if that is wanted and the command names the directory
 abbrev pub change_command : Bool → List Directory → PinChange → Option (List ℕ)
@@ -26,7 +39,7 @@ change_command by_ceph directories change = ceph_line by_ceph change.pin (path_a
 abbrev pub change_line : List ℕ → Bool → List Directory → PinChange → List ℕ
 change_line mount by_ceph directories change =
     unwrap_or (change_command by_ceph directories change)
-    (pin_line change.pin (mount ++ path_at directories change.row))
+    (pin_line (inode_of_row directories change.row) change.pin (mount ++ path_at directories change.row))
 
 -- some change is made by Ceph's own command
 abbrev pub needs_ceph : Bool → List Directory → List PinChange → Bool

@@ -1,6 +1,6 @@
 -- Ceph's own commands for the pins of subvolumes and of their groups.
-use Rattle.std.specs.Prelude.{◌==◌, ◌&&◌, ◌++◌, ℕ, Bool, not, List, [], ◌∷◌, codes, decimal, drop, take, length}
-use Rattle.std.specs.Prelude.{slice_index, Option, Some, None, if◌then◌else◌}
+use Rattle.std.specs.Prelude.{◌==◌, ◌&&◌, ◌++◌, ℕ, Bool, not, true, List, [], ◌∷◌, codes, decimal, drop, take, length}
+use Rattle.std.specs.Prelude.{is_some, slice_index, Option, Some, None, if◌then◌else◌}
 use Rattle.std.specs.List.{list_all, slice_split}
 use Rattle.std.specs.Str.{bytes_eq}
 use Rattle.ceph_dumps.specs.Complete.{is_word_byte}
@@ -60,3 +60,7 @@ named_line pin _ = None
 -- the line that pins the directory of a path by Ceph's own command, if that is wanted and the command names it
 abbrev pub ceph_line : Bool → Option ℕ → List ℕ → Option (List ℕ)
 ceph_line by_ceph pin path = if by_ceph then named_line pin (volume_names path) else None
+
+-- the directory of a path is a subvolume, or a group of them, that Ceph's own commands pin
+abbrev pub is_unit : List ℕ → Bool
+is_unit path = is_some (ceph_line true None path)

@@ -16,3 +16,4 @@ pub use own_list::make_own_list;
 pub use pins::{pins_after, standing_pins};
 pub use pins_script::{MountedFileSystem, make_pins_script};
 pub use script_error::ScriptError;
+pub use volumes::unit_marks;

@@ -6,8 +6,8 @@ ghost use Rattle.std.specs.Prelude.{length, true, if◌then◌else◌};
 ghost use Rattle.std.specs.List.{flat_map};
 ghost use Rattle.ceph_plan.specs.Words.{quoted_word};
 ghost use Rattle.ceph_pins.specs.PinsScript.{AreWritable, HasNoNul, IsChangeWritable, change_command, change_line};
-ghost use Rattle.ceph_pins.specs.PinsScript.{needs_ceph, needs_mount, path_at, pin_line, pins_script};
-ghost use Rattle.ceph_pins.specs.PinsScript.{variable_lines};
+ghost use Rattle.ceph_pins.specs.PinsScript.{call_text, inode_of_row, needs_ceph, needs_mount, number_text};
+ghost use Rattle.ceph_pins.specs.PinsScript.{path_at, pin_line, pins_script, variable_lines};
 ghost use Rattle.ceph_pins.specs.Volumes.{pin_text};
 ghost use Rattle.ceph_pins.specs.declared.script_error.ScriptError.TheVariants as cause;
 
@@ -46,10 +46,12 @@ const HEAD: &str = "#!/bin/sh
 # Sets CephFS export pins: new pins first, the deepest before those above it. Then it removes the pins of an earlier
 # plan that are no longer wanted, from the top down.
 # usage: sh FILE [-n]    With -n the script only prints what it would do.
-# Status 0: done. 1: another file system, a pin failed, or more directories are gone than were changed. 2: the command
-# line is refused.
+# A directory is passed over if its inode number is not the one that was collected (- where none is known). Each call
+# that touches the mount may take PINS_LIMIT seconds, 60 where that is not set.
+# Status 0: done. 1: another file system, a mount that does not answer, a pin failed, another directory has the path,
+# or more directories are gone than were changed. 2: the command line is refused.
 LC_ALL=C; export LC_ALL
-only_print= changed=0 gone=0 failed=0
+limit=${PINS_LIMIT:-60} only_print= changed=0 gone=0 failed=0
 case $#:${1-} in
   0:) ;;
   1:-n) only_print=1 ;;
@@ -66,21 +68,49 @@ show() {
     *) printf '%s\\n' \"$1\" ;;
   esac
 }
+# Runs a command that touches the mount. One that hangs keeps only the inner shell's pipe open.
+within() {
+  timeout -k 5 \"$limit\" sh -c 'said=$(\"$@\" 2>&1); status=$?; printf %s \"$said\"; exit \"$status\"' sh \"$@\"
+}
+count() { printf '%s pins changed, %s directories gone, %s failed\\n' \"$changed\" \"$gone\" \"$failed\"; }
+no_answer() {
+  show \"no answer in $limit seconds: $1 (is this client evicted? then mount again)\" >&2
+  count
+  exit 1
+}
+fail() { show \"failed: $1\" >&2; failed=$((failed + 1)); }
+# run NUMBER COMMAND.. DIRECTORY
 run() {
+  number=$1
+  shift
   for directory; do :; done
-  if [ -n \"$only_print\" ]; then show \"$*\"
-  elif [ -L \"$directory\" ]; then show \"failed: a symbolic link: $directory\" >&2; failed=$((failed + 1))
-  elif [ ! -d \"$directory\" ]; then show \"gone: $directory\" >&2; gone=$((gone + 1))
-  elif reason=$(\"$@\" 2>&1); then changed=$((changed + 1))
-  else show \"failed: $reason\" >&2; failed=$((failed + 1)); fi
+  if [ -n \"$only_print\" ]; then show \"$*\"; return; fi
+  found=$(within stat -c '%F %i' -- \"$directory\")
+  case $?:$found in
+    124:*|137:*) no_answer \"$directory\" ;;
+    \"0:directory $number\") ;;
+    '0:directory '*) [ \"$number\" = - ] || { fail \"another directory: $directory\"; return; } ;;
+    '0:symbolic link '*) fail \"a symbolic link: $directory\"; return ;;
+    *) show \"gone: $directory\" >&2; gone=$((gone + 1)); return ;;
+  esac
+  reason=$(within \"$@\")
+  case $? in
+    0) changed=$((changed + 1)) ;;
+    124|137) no_answer \"$*\" ;;
+    *) fail \"$reason\" ;;
+  esac
 }
 ";
 
 /// What the script asks the mount before it changes anything.
 const CHECKS: &str = "if [ -z \"$only_print\" ]; then
-  getfattr --only-values -n ceph.dir.rentries -- \"$mount\" >/dev/null 2>&1 ||
-    { show \"getfattr does not read ceph.dir.rentries of $mount: no CephFS is mounted there\" >&2; exit 1; }
-  found=$(getfattr --only-values -n ceph.cluster_fsid -- \"$mount\" 2>/dev/null) || found=$fsid
+  within getfattr --absolute-names --only-values -n ceph.dir.rentries -- \"$mount\" >/dev/null
+  case $? in
+    0) ;;
+    124|137) no_answer \"$mount\" ;;
+    *) show \"getfattr does not read ceph.dir.rentries of $mount: no CephFS is mounted there\" >&2; exit 1 ;;
+  esac
+  found=$(within getfattr --absolute-names --only-values -n ceph.cluster_fsid -- \"$mount\") || found=$fsid
   [ -z \"$fsid\" ] || [ \"$found\" = \"$fsid\" ] ||
     { show \"$mount is in cluster $found, and the plan is for $name in cluster $fsid\" >&2; exit 1; }
 fi
@@ -95,7 +125,7 @@ run_ceph() {
   case $? in
     0) changed=$((changed + 1)) ;;
     2) show \"gone: ceph $*\" >&2; gone=$((gone + 1)) ;;
-    *) show \"failed: ceph $*: $reason\" >&2; failed=$((failed + 1)) ;;
+    *) fail \"ceph $*: $reason\" ;;
   esac
 }
 if [ -z \"$only_print\" ]; then
@@ -106,8 +136,7 @@ fi
 ";
 
 /// The end of the script.
-const FOOT: &str = "[ -n \"$only_print\" ] ||
-  printf '%s pins changed, %s directories gone, %s failed\\n' \"$changed\" \"$gone\" \"$failed\"
+const FOOT: &str = "[ -n \"$only_print\" ] || count
 [ \"$failed\" = 0 ] && [ \"$gone\" -le \"$changed\" ]
 ";
 
@@ -130,17 +159,41 @@ fn push_word(alloc: Global, script: &mut Vec<u8>, bytes: &[u8]) -> Result<(), Sc
     Ok(())
 }
 
-/// Adds the line that gives the directory at this place a pin.
+/// Adds the inode number that the script compares; a hyphen where none is known.
+fn push_number(alloc: Global, script: &mut Vec<u8>, inode: Option<u64>) -> Result<(), AllocError>
+    ensures { OnOk result (script.new.items ≡ script.old.items ++ number_text inode) }
+{
+    match inode {
+        Some(inode) => {
+            let number = format!(in alloc; "{inode}")?;
+            script.extend_from_slice(number.as_bytes())
+        }
+        None => script.extend_from_slice(b"-"),
+    }
+}
+
+/// Adds the begin of a line: the number that is compared, and the call of `setfattr`.
+#[tactic(auto, unfolding(crate::specs::PinsScript::call_text))]
+fn push_call(alloc: Global, script: &mut Vec<u8>, inode: Option<u64>) -> Result<(), AllocError>
+    ensures { OnOk result (script.new.items ≡ script.old.items ++ call_text inode) }
+{
+    script.extend_from_slice(b"run ")?;
+    push_number(alloc, script, inode)?;
+    script.extend_from_slice(b" setfattr -h -n ceph.dir.pin -v ")
+}
+
+/// Adds the line that gives the directory at this place a pin, if it has this inode number.
 fn push_line(
     alloc: Global,
     script: &mut Vec<u8>,
+    inode: Option<u64>,
     pin: Option<Rank>,
     place: &[u8],
 ) -> Result<(), ScriptError>
-    ensures line { OnOk result (script.new.items ≡ script.old.items ++ pin_line pin place.now) }
+    ensures line { OnOk result (script.new.items ≡ script.old.items ++ pin_line inode pin place.now) }
     ensures refused { HasNoNul place.now → IfErr result (λ error. error ≡ cause.Memory) }
 {
-    script.extend_from_slice(b"run setfattr -h -n ceph.dir.pin -v ")?;
+    push_call(alloc, script, inode)?;
     push_pin(alloc, script, pin)?;
     script.extend_from_slice(b" -- ")?;
     push_word(alloc, script, place)?;
@@ -148,31 +201,34 @@ fn push_line(
     Ok(())
 }
 
-/// The path of the directory of a row.
-fn path_of(directories: &[Directory], row: u32) -> Result<&[u8], ScriptError>
-    ensures path { IfOk result (λ path. path.now ≡ path_at directories.now row) }
+/// The directory of a row.
+fn directory_of(directories: &[Directory], row: u32) -> Result<&Directory, ScriptError>
+    ensures path { IfOk result (λ directory. directory.now.path.items ≡ path_at directories.now row) }
+    ensures inode { IfOk result (λ directory. directory.now.inode ≡ inode_of_row directories.now row) }
     ensures there { row < length directories.now → is_ok result ≡ true }
 {
     match directories.get(row as usize) {
-        Some(directory) => Ok(&directory.path),
+        Some(directory) => Ok(directory),
         None => Err(ScriptError::NoDirectory(row)),
     }
 }
 
-/// Adds the line that gives the directory of a path a pin over the mount.
+/// Adds the line that gives a directory a pin over the mount.
 fn push_mounted(
     alloc: Global,
     script: &mut Vec<u8>,
     pin: Option<Rank>,
     mount: &[u8],
-    path: &[u8],
+    directory: &Directory,
 ) -> Result<(), ScriptError>
-    ensures line { OnOk result (script.new.items ≡ script.old.items ++ pin_line pin (mount.now ++ path.now)) }
-    ensures refused { HasNoNul mount.now → HasNoNul path.now → IfErr result (λ error. error ≡ cause.Memory) }
+    ensures line { OnOk result (script.new.items ≡ script.old.items
+        ++ pin_line directory.entry.now.inode pin (mount.now ++ directory.entry.now.path.items)) }
+    ensures refused { HasNoNul mount.now → HasNoNul directory.entry.now.path.items
+        → IfErr result (λ error. error ≡ cause.Memory) }
 {
     let mut place = Vec::from_slice(alloc, mount)?;
-    place.extend_from_slice(path)?;
-    push_line(alloc, script, pin, &place)
+    place.extend_from_slice(&directory.path)?;
+    push_line(alloc, script, directory.inode, pin, &place)
 }
 
 /// Adds the line of a change. Returns whether Ceph's own command makes it.
@@ -190,14 +246,14 @@ fn push_change(
     ensures refused { HasNoNul mounted.entry.mount.now → IsChangeWritable directories.now change
         → IfErr result (λ error. error ≡ cause.Memory) }
 {
-    let path = path_of(directories, change.row)?;
-    match ceph_line(alloc, mounted.by_ceph, change.pin, path)? {
+    let directory = directory_of(directories, change.row)?;
+    match ceph_line(alloc, mounted.by_ceph, change.pin, &directory.path)? {
         Some(line) => {
             script.extend_from_slice(&line)?;
             Ok(true)
         }
         None => {
-            push_mounted(alloc, script, change.pin, mounted.mount, path)?;
+            push_mounted(alloc, script, change.pin, mounted.mount, directory)?;
             Ok(false)
         }
     }

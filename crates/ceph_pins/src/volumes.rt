@@ -1,13 +1,16 @@
 //! Lines that pin subvolumes and their groups by Ceph's own commands, for which no mount is needed.
-ghost use Rattle.std.specs.Prelude.{◌≡◌, ◌==◌, ◌++◌, ◌∷◌, [], IfOk, OnOk, codes, map};
+ghost use Rattle.std.specs.Prelude.{◌≡◌, ◌==◌, ◌<◌, ◌++◌, ◌∷◌, [], ℕ, IfOk, OnOk, codes, length, map};
 ghost use Rattle.std.specs.List.{list_all, slice_split};
 ghost use Rattle.std.specs.Option.{option_map};
 ghost use Rattle.ceph_dumps.specs.Complete.{is_word_byte};
-ghost use Rattle.ceph_pins.specs.Volumes.{below_volumes, ceph_line, group_line, group_option, is_group};
+ghost use Rattle.ceph_snapshot.specs.Holding.{is_marked};
+ghost use Rattle.ceph_snapshot.specs.Policies.{dir_path_at};
+ghost use Rattle.ceph_pins.specs.Volumes.{below_volumes, ceph_line, group_line, group_option, is_group, is_unit};
 ghost use Rattle.ceph_pins.specs.Volumes.{is_volume_name, named_line, pin_text, subvolume_command};
 ghost use Rattle.ceph_pins.specs.Volumes.{subvolume_line, volume_names};
 
 use ceph_dumps::is_word_byte;
+use ceph_snapshot::Directory;
 use mds_types::Rank;
 use std::alloc::{AllocError, Global};
 
@@ -188,4 +191,25 @@ pub(crate) fn ceph_line(
     }
     let names = volume_names(alloc, path)?;
     named_line(alloc, pin, &names)
+}
+
+/// Whether Ceph's own commands pin the directory of a path: a subvolume, or a group of them.
+fn is_unit(alloc: Global, path: &[u8]) -> Result<bool, AllocError>
+    ensures { IfOk result (λ is. is ≡ is_unit path.now) }
+{
+    let line = ceph_line(alloc, true, None, path)?;
+    Ok(line.is_some())
+}
+
+/// Of each directory whether Ceph's own commands pin it: whether it is a subvolume, or a group of them.
+pub fn unit_marks(alloc: Global, directories: &[Directory]) -> Result<Vec<bool>, AllocError>
+    ensures size { IfOk result (λ units. length units.items ≡ length directories.now) }
+    ensures units { IfOk result (λ units. (i : ℕ) → i < length directories.now
+        → is_marked units.items i ≡ is_unit (dir_path_at directories.now i)) }
+{
+    let mut units = Vec::with_capacity(alloc, directories.len())?;
+    for directory in directories {
+        units.push(is_unit(alloc, &directory.path)?)?;
+    }
+    Ok(units)
 }
