@@ -41,6 +41,19 @@ abbrev pub inodes_from : List Directory → List Held → List ℕ → ℕ → �
 inodes_from directories holds goals r n =
     sum_below n (λ i. if now_at directories i == r then going_at directories holds goals i else 0)
 
+-- of the first n directories, the inodes that go to another rank in directories without heat of their own
+abbrev pub cold_inodes : List Directory → List Held → List ℕ → ℕ → ℕ
+cold_inodes directories holds goals n =
+    sum_below n (λ i. if heat_at directories i == 0 then going_at directories holds goals i else 0)
+
+-- and the heat that goes to another rank
+abbrev pub going_heat_at : List Directory → List Held → List ℕ → ℕ → ℕ
+going_heat_at directories holds goals i =
+    going_of (now_at directories i) (held_at holds i) (slice_index goals i) (heat_at directories i)
+
+abbrev pub heat_going : List Directory → List Held → List ℕ → ℕ → ℕ
+heat_going directories holds goals n = sum_below n (going_heat_at directories holds goals)
+
 -- a number for each of 64 ranks, as far as 64 bits can count
 pub record AreAmounts (amounts : List ℕ) (of : ℕ → ℕ) : Type 0 where
   pub size : length amounts ≡ 64

@@ -2,29 +2,38 @@
 use Rattle.std.specs.Prelude.{◌++◌, ℕ, Bool, List, [], codes, length, slice_get, slice_index}
 use Rattle.std.specs.Prelude.{Option, Some, None, if◌then◌else◌}
 use Rattle.mds_types.specs.Sums.{count_below}
-use Rattle.ceph_pins.specs.PinsScript.{path_at}
+use Rattle.ceph_pins.specs.PinsScript.{inode_of_row, path_at}
 use Rattle.ceph_pins.specs.Volumes.{pin_text}
+use Rattle.ceph_plan.specs.Changes.{before_pin}
 use Rattle.ceph_plan.specs.declared.row.PinChange.{PinChange}
 use Rattle.ceph_snapshot.specs.declared.directory.Directory.{Directory}
+use Rattle.ceph_snapshot.specs.Holding.{now_at}
 use Rattle.ceph_report.specs.Left.{left_at}
 use Rattle.ceph_report.specs.Spreading.{advice_member}
-use Rattle.ceph_report.specs.Text.{comma, field, json_string, lines_below}
+use Rattle.ceph_report.specs.Text.{comma, field, lines_below, path_value}
 use Rattle.ceph_report.specs.Told.{bound_term, hottest_bound, hottest_planned, into_of, is_told}
 use Rattle.ceph_report.specs.Told.{now_of, out_of, pinned_of, planned_of, planned_roots_of, roots_of}
 use Rattle.ceph_report.specs.declared.facts.BoundTerm.{BoundTerm}
 use Rattle.ceph_report.specs.declared.facts.BoundTerm.TheVariants.{Hottest, Mean, Pinned}
 use Rattle.ceph_report.specs.declared.facts.Facts.{Facts}
+use Rattle.ceph_report.specs.declared.json.ChangeForm.{ChangeForm}
+use Rattle.ceph_report.specs.declared.json.ChangeForm.TheVariants.{Back, There}
 use Rattle.ceph_report.specs.declared.staying.Stay.{Stay}
 use Rattle.ceph_report.specs.declared.staying_text.LeftForm.TheVariants.{Member}
 
 abbrev pub truth : Bool → List ℕ
 truth is_so = if is_so then codes "true" else codes "false"
 
+-- whether Ceph's balancer is on, and whether there is so little heat that nothing is proposed
+unfoldable pub mode_members : Facts → List ℕ
+mode_members facts =
+    codes ",\"balancer\":" ++ truth facts.balances ++ codes ",\"idle\":" ++ truth facts.is_idle
+
 unfoldable pub plan_head : Facts → Bool → List ℕ
 plan_head facts is_proposed =
-    codes "{\"format\":1,\"proposed\":" ++ truth is_proposed
+    codes "{\"format\":2,\"proposed\":" ++ truth is_proposed
     ++ field (codes ",\n\"directories\":") (length facts.directories.now) ++ field (codes ",\"folded\":") facts.folded
-    ++ field (codes ",\"samples\":") facts.samples ++ codes ",\"balancer\":" ++ truth facts.balances
+    ++ field (codes ",\"samples\":") facts.samples ++ mode_members facts
 
 -- the term that makes the bound, and the hottest directory
 abbrev pub term_name : BoundTerm → List ℕ
@@ -32,15 +41,22 @@ term_name Mean = codes "mean"
 term_name Hottest = codes "directory"
 term_name Pinned = codes "pinned"
 
+-- the inodes that move, those of them in directories without heat, and the heat that moves
+unfoldable pub move_members : Facts → List ℕ
+move_members facts =
+    field (codes ",\"inodes_moved\":") facts.plan.now.moved
+    ++ field (codes ",\"inodes_without_heat\":") facts.sums.now.cold
+    ++ field (codes ",\"heat_moved\":") facts.sums.now.heat
+
 unfoldable pub plan_totals : Facts → List ℕ
 plan_totals facts =
     field (codes ",\n\"greatest\":") (hottest_planned facts) ++ field (codes ",\"bound\":") (hottest_bound facts)
-    ++ field (codes ",\"inodes_moved\":") facts.plan.now.moved ++ field (codes ",\"pins_standing\":") facts.standing
+    ++ move_members facts ++ field (codes ",\"pins_standing\":") facts.standing
 
 unfoldable pub bound_members : Facts → List ℕ
 bound_members facts =
-    codes ",\n\"bound_by\":\"" ++ term_name (bound_term facts) ++ codes "\",\"hottest_directory\":"
-    ++ json_string facts.hottest.now.path.items
+    codes ",\n\"bound_by\":\"" ++ term_name (bound_term facts) ++ codes "\",\"hottest_directory"
+    ++ path_value facts.hottest.now.path.items
 
 unfoldable pub plan_numbers : Facts → List ℕ
 plan_numbers facts = plan_totals facts ++ bound_members facts ++ advice_member facts.size facts.advice
@@ -84,23 +100,59 @@ unfoldable pub stay_list : List Directory → List (Option Stay) → List ℕ
 stay_list directories stays =
     codes "],\n\"left\":[" ++ lines_below (left_at Member directories stays) (length stays)
 
--- a change of a pin, -1 where it is taken away
-unfoldable pub pin_object : List Directory → PinChange → List ℕ
-pin_object directories change =
-    codes "\n  {\"path\":" ++ json_string (path_at directories change.row) ++ codes ",\"rank\":" ++ pin_text change.pin
-    ++ codes "}"
+-- the inode number of a directory, null where it is not known
+unfoldable pub inode_text : Option ℕ → List ℕ
+inode_text None = codes ",\"inode\":null"
+inode_text (Some inode) = field (codes ",\"inode\":") inode
 
-unfoldable pub pin_member : List Directory → ℕ → Option PinChange → List ℕ
-pin_member directories i None = []
-pin_member directories i (Some change) = comma i ++ pin_object directories change
+-- the directory of a row: its path and its inode number
+unfoldable pub directory_members : List Directory → ℕ → List ℕ
+directory_members directories i =
+    codes "\n  {\"path" ++ path_value (path_at directories i) ++ inode_text (inode_of_row directories i)
 
-unfoldable pub pin_list : List Directory → List PinChange → List ℕ
-pin_list directories changes =
-    codes "],\n\"pins\":[" ++ lines_below (λ i. pin_member directories i (slice_get changes i)) (length changes)
-    ++ codes "]}\n"
+-- the rank at which it is now, and the one at which it is to be
+unfoldable pub rank_members : Facts → ℕ → List ℕ
+rank_members facts i =
+    field (codes ",\"rank_now\":") (now_at facts.directories.now i)
+    ++ field (codes ",\"rank_planned\":") (slice_index facts.goals.now i)
 
-unfoldable pub json : Facts → List PinChange → Bool → List ℕ
-json facts changes is_proposed =
+-- its pin before and after a change, -1 where there is none
+unfoldable pub pin_members : Facts → PinChange → List ℕ
+pin_members facts change =
+    codes ",\"pin_before\":" ++ pin_text (before_pin facts.rows.now change.row) ++ codes ",\"pin_after\":"
+    ++ pin_text change.pin ++ codes "}"
+
+unfoldable pub change_object : Facts → PinChange → List ℕ
+change_object facts change =
+    directory_members facts.directories.now change.row ++ rank_members facts change.row ++ pin_members facts change
+
+-- a change that undoes one
+unfoldable pub back_object : Facts → PinChange → List ℕ
+back_object facts change =
+    directory_members facts.directories.now change.row ++ codes ",\"pin\":" ++ pin_text change.pin ++ codes "}"
+
+-- a change of either list, -1 where a pin is taken away
+abbrev pub one_object : ChangeForm → Facts → PinChange → List ℕ
+one_object There facts change = change_object facts change
+one_object Back facts change = back_object facts change
+
+unfoldable pub one_member : ChangeForm → Facts → ℕ → Option PinChange → List ℕ
+one_member form facts i None = []
+one_member form facts i (Some change) = comma i ++ one_object form facts change
+
+-- the members of these changes, in their order
+unfoldable pub change_members : ChangeForm → Facts → List PinChange → List ℕ
+change_members form facts changes =
+    lines_below (λ i. one_member form facts i (slice_get changes i)) (length changes)
+
+-- the changes, in the order in which they are to be made, and those that undo them, in theirs
+unfoldable pub change_lists : Facts → List PinChange → List PinChange → List ℕ
+change_lists facts changes back =
+    codes "],\n\"changes\":[" ++ change_members There facts changes ++ codes "],\n\"back\":["
+    ++ change_members Back facts back ++ codes "]}\n"
+
+unfoldable pub json : Facts → List PinChange → List PinChange → Bool → List ℕ
+json facts changes back is_proposed =
     plan_head facts is_proposed ++ plan_numbers facts ++ rank_list facts
     ++ part_list facts.plan.now.packing.rank.items ++ stay_list facts.directories.now facts.stays.now
-    ++ pin_list facts.directories.now changes
+    ++ change_lists facts changes back

@@ -5,10 +5,10 @@ use Rattle.ceph_pins.specs.PinsScript.{path_at}
 use Rattle.ceph_snapshot.specs.Policies.{Distributed, Random, Unknown}
 use Rattle.ceph_snapshot.specs.declared.directory.Directory.{Directory}
 use Rattle.ceph_report.specs.Staying.{is_left, stay_text}
-use Rattle.ceph_report.specs.Text.{comma, field, json_string, place_text}
+use Rattle.ceph_report.specs.Text.{comma, field, path_value, place_text}
 use Rattle.ceph_report.specs.declared.report.TheConstants.{LINES_EACH}
 use Rattle.ceph_report.specs.declared.staying.Reason.{Reason}
-use Rattle.ceph_report.specs.declared.staying.Reason.TheVariants.{Absent, Policy, Spread}
+use Rattle.ceph_report.specs.declared.staying.Reason.TheVariants.{Absent, Doubtful, Policy, Spread}
 use Rattle.ceph_report.specs.declared.staying.Stay.{Stay}
 use Rattle.ceph_report.specs.declared.staying_text.LeftForm.{LeftForm}
 use Rattle.ceph_report.specs.declared.staying_text.LeftForm.TheVariants.{Line, Member}
@@ -23,11 +23,12 @@ reason_name (Policy Distributed) = codes "distributed"
 reason_name (Policy Random) = codes "random"
 reason_name (Policy Unknown) = codes "ephemeral"
 reason_name Absent = codes "absent_rank"
+reason_name Doubtful = codes "inode_number"
 reason_name Spread = codes "several_ranks"
 
 unfoldable pub left_object : List Directory → Stay → ℕ → List ℕ
 left_object directories stay i =
-    codes "\n  {\"path\":" ++ json_string (path_at directories i) ++ codes ",\"why\":\"" ++ reason_name stay.why
+    codes "\n  {\"path" ++ path_value (path_at directories i) ++ codes ",\"why\":\"" ++ reason_name stay.why
     ++ field (codes "\",\"below\":") stay.below ++ codes "}"
 
 -- one, after `before` others: the first 40 have a line, and each has a member

@@ -10,7 +10,8 @@ use Rattle.ceph_snapshot.specs.Shown.{shown_path}
 use Rattle.ceph_report.specs.Left.{left_at}
 use Rattle.ceph_report.specs.Spreading.{advice_text}
 use Rattle.ceph_report.specs.Staying.{is_left}
-use Rattle.ceph_report.specs.Text.{columns, field, heat_text, lines_below, per_mille, percent_text, place_text}
+use Rattle.ceph_report.specs.Text.{columns, field, heat_text, lines_below, per_mille, per_mille_above}
+use Rattle.ceph_report.specs.Text.{percent_text, place_text}
 use Rattle.ceph_report.specs.Told.{heat_of_ranks, bound_term, free_heat, is_over}
 use Rattle.ceph_report.specs.Told.{hottest_bound, hottest_now, hottest_planned, into_of, is_told, now_of, out_of}
 use Rattle.ceph_report.specs.Told.{pinned_of, planned_of, planned_roots_of, roots_of}
@@ -18,7 +19,7 @@ use Rattle.ceph_report.specs.declared.facts.BoundTerm.{BoundTerm}
 use Rattle.ceph_report.specs.declared.facts.BoundTerm.TheVariants.{Hottest, Mean, Pinned}
 use Rattle.ceph_report.specs.declared.facts.Facts.{Facts}
 use Rattle.ceph_report.specs.declared.moves.Move.{Move}
-use Rattle.ceph_report.specs.declared.report.TheConstants.{CAVEAT, LINES_EACH, NOTHING, OVER}
+use Rattle.ceph_report.specs.declared.report.TheConstants.{CAVEAT, IDLE, LINES_EACH, NOTHING, OVER}
 use Rattle.ceph_report.specs.declared.staying.Stay.{Stay}
 use Rattle.ceph_report.specs.declared.staying_text.LeftForm.TheVariants.{Line}
 
@@ -60,21 +61,26 @@ term_text Mean = codes "the mean load"
 term_text Hottest = codes "the hottest directory, where least is pinned"
 term_text Pinned = codes "what is pinned to one rank"
 
--- the hottest of all ranks now and as planned, and what it can't get below
+-- a label, tenths of a percent, and what comes after them; nothing where there is so little heat that a ratio says
+-- nothing
+unfoldable pub ratio_text : Facts → List ℕ → ℕ → List ℕ → List ℕ
+ratio_text facts label tenths after = if facts.is_idle then [] else percent_text label tenths ++ after
+
+-- the hottest of all ranks now and as planned, and the heat that moves
 unfoldable pub heat_lines : Facts → List ℕ
 heat_lines facts =
     heat_text (codes "\nhottest rank now     ") (hottest_now facts)
     ++ heat_text (codes "\nhottest rank planned ") (hottest_planned facts)
-    ++ percent_text (codes ", cooler than now: ")
-    (per_mille (hottest_now facts - hottest_planned facts) (hottest_now facts))
-    ++ heat_text (codes "\nlower bound          ") (hottest_bound facts)
-    ++ percent_text (codes ", the plan is within ")
-    (per_mille (hottest_planned facts - hottest_bound facts) (hottest_bound facts))
-    ++ codes " of it"
+    ++ ratio_text facts (codes ", cooler than now: ")
+    (per_mille (hottest_now facts - hottest_planned facts) (hottest_now facts)) []
+    ++ heat_text (codes "\nheat that moves      ") facts.sums.now.heat
 
--- and the term that makes the bound
+-- what the hottest rank can't get below, the term that makes it, and how far the plan is above it, rounded up
 unfoldable pub bound_lines : Facts → List ℕ
-bound_lines facts = heat_lines facts ++ codes ": " ++ term_text (bound_term facts)
+bound_lines facts =
+    heat_text (codes "\nlower bound          ") (hottest_bound facts) ++ codes "  " ++ term_text (bound_term facts)
+    ++ ratio_text facts (codes "; the plan is ")
+    (per_mille_above (hottest_planned facts - hottest_bound facts) (hottest_bound facts)) (codes " above it")
 
 -- the hottest directory that was collected: no pin divides it
 unfoldable pub hottest_line : Facts → List ℕ
@@ -96,10 +102,15 @@ over_lines facts = lines_below (over_line facts (heat_of_ranks facts 64)) (lengt
 unfoldable pub standing_text : ℕ → List ℕ
 standing_text count = if nat_lt 0 count then field (codes ", ") count ++ codes " pins are set already" else []
 
+-- how many parts there are, and what moves, with the inodes of directories without heat
+unfoldable pub move_counts : Facts → List ℕ
+move_counts facts =
+    field CAVEAT.now facts.plan.now.count ++ field (codes " parts, ") facts.plan.now.moved
+    ++ field (codes " inodes move (") facts.sums.now.cold ++ codes " of them without heat), "
+
 unfoldable pub count_line : Facts → List ℕ
 count_line facts =
-    field CAVEAT.now facts.plan.now.count ++ field (codes " parts, ") facts.plan.now.moved
-    ++ field (codes " inodes move, ") facts.changes ++ codes " changes of pins" ++ standing_text facts.standing
+    move_counts facts ++ field [] facts.changes ++ codes " changes of pins" ++ standing_text facts.standing
     ++ codes "\n"
 
 -- what is known of directories without a pin
@@ -173,8 +184,8 @@ capped_lines directories = lines_below (capped_line directories) (length directo
 -- what the plan comes to, and what it moves
 unfoldable pub plan_text : Facts → List ℕ
 plan_text facts =
-    head_line facts ++ rank_table facts ++ bound_lines facts ++ hottest_line facts ++ count_line facts
-    ++ mode_text facts.balances ++ moves_text facts.directories.now facts.moves.now
+    head_line facts ++ rank_table facts ++ heat_lines facts ++ bound_lines facts ++ hottest_line facts
+    ++ count_line facts ++ mode_text facts.balances ++ moves_text facts.directories.now facts.moves.now
 
 -- what was left out, or has no single rank
 unfoldable pub left_out : Facts → List ℕ
@@ -182,6 +193,9 @@ left_out facts =
     folded_line facts.folded ++ over_lines facts ++ advice_text facts facts.advice ++ absent_lines facts
     ++ left_lines facts.directories.now facts.stays.now ++ capped_lines facts.directories.now
 
+-- the last line where nothing is proposed
+abbrev pub nothing_text : Bool → Bool → List ℕ
+nothing_text is_proposed is_idle = if is_proposed then [] else if is_idle then IDLE.now else NOTHING.now
+
 unfoldable pub report : Facts → Bool → List ℕ
-report facts is_proposed =
-    plan_text facts ++ left_out facts ++ (if is_proposed then [] else NOTHING.now)
+report facts is_proposed = plan_text facts ++ left_out facts ++ nothing_text is_proposed facts.is_idle

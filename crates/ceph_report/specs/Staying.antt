@@ -4,11 +4,11 @@ use Rattle.std.specs.Prelude.{◌++◌, slice_index, slice_index_or, Option, Som
 use Rattle.mds_types.specs.Sums.{sum_below}
 use Rattle.ceph_snapshot.specs.declared.directory.Directory.{Directory}
 use Rattle.ceph_snapshot.specs.Holding.{is_spread_at, most_heat, parent_at}
-use Rattle.ceph_snapshot.specs.Policies.{Distributed, EphemeralPin, Random, Unknown, idle_at, policy_at}
+use Rattle.ceph_snapshot.specs.Policies.{Distributed, EphemeralPin, Random, Unknown, idle_at, is_doubtful_at, policy_at}
 use Rattle.ceph_report.specs.Moves.{AreLeaders}
 use Rattle.ceph_report.specs.Text.{field}
 use Rattle.ceph_report.specs.declared.staying.Reason.{Reason}
-use Rattle.ceph_report.specs.declared.staying.Reason.TheVariants.{Absent, Policy, Spread}
+use Rattle.ceph_report.specs.declared.staying.Reason.TheVariants.{Absent, Doubtful, Policy, Spread}
 use Rattle.ceph_report.specs.declared.staying.Stay.{Stay}
 
 abbrev pub has_policy_at : List Directory → ℕ → Bool
@@ -29,15 +29,17 @@ abbrev pub followers : List ℕ → ℕ → ℕ → ℕ
 followers leaders n i = sum_below n (λ j. if slice_index leaders j == i then follows leaders j else 0)
 
 -- a directory with a policy is left with what is below it, and one that others decide about otherwise without
-abbrev pub stay_of : Option EphemeralPin → Bool → Bool → ℕ → Option Stay
-stay_of (Some policy) absent torn below = Some (record { why = Policy policy; below = below })
-stay_of None absent torn below =
+abbrev pub stay_of : Option EphemeralPin → Bool → Bool → Bool → ℕ → Option Stay
+stay_of (Some policy) absent doubtful torn below = Some (record { why = Policy policy; below = below })
+stay_of None absent doubtful torn below =
     if absent then Some (record { why = Absent; below = 0 })
+    else if doubtful then Some (record { why = Doubtful; below = 0 })
     else if torn then Some (record { why = Spread; below = 0 }) else None
 
 abbrev pub stay_at : List Directory → List ℕ → ℕ → Option Stay
 stay_at directories leaders i =
-    stay_of (policy_at directories i) (is_some (idle_at directories i)) (is_parted_at directories leaders i)
+    stay_of (policy_at directories i) (is_some (idle_at directories i)) (is_doubtful_at directories i)
+    (is_parted_at directories leaders i)
     (min most_heat (followers leaders (length leaders) i))
 
 -- of each directory whether it is left where it is, where the nearest policy at or above a directory leads it
@@ -56,6 +58,7 @@ reason_text (Policy Distributed) = codes ", its children spread by its distribut
 reason_text (Policy Random) = codes ", held by its random policy"
 reason_text (Policy Unknown) = codes ", pinned by Ceph itself"
 reason_text Absent = codes ", pinned by others to a rank that is not there"
+reason_text Doubtful = codes ", another directory over the mount, or none, by its inode number"
 reason_text Spread = codes ", at several ranks or pinned by Ceph itself"
 
 unfoldable pub below_text : ℕ → List ℕ

@@ -4,7 +4,8 @@ use Rattle.std.specs.Prelude.{codes, decimal, length, min, nat_lt, take, if◌th
 use Rattle.std.specs.List.{flat_map}
 use Rattle.ceph_pins.specs.PinsScript.{path_at}
 use Rattle.ceph_snapshot.specs.Holding.{most_heat}
-use Rattle.ceph_snapshot.specs.Shown.{is_printed, shown_path}
+use Rattle.std.specs.Str.{is_utf8}
+use Rattle.ceph_snapshot.specs.Shown.{shown_path}
 use Rattle.ceph_snapshot.specs.declared.directory.Directory.{Directory}
 
 -- the texts of the numbers below n, in their order
@@ -32,6 +33,10 @@ percent_text label tenths = field label (tenths / 10) ++ field (codes ".") (tent
 unfoldable pub per_mille : ℕ → ℕ → ℕ
 per_mille part whole = if whole == 0 then 0 else min most_heat (part * 1000) / whole
 
+-- a part of a whole in tenths of a percent, rounded up, as far as 64 bits count
+unfoldable pub per_mille_above : ℕ → ℕ → ℕ
+per_mille_above part whole = if whole == 0 then 0 else min most_heat ((part * 1000 + (whole - 1)) / whole)
+
 unfoldable pub hex_digit : ℕ → ℕ
 hex_digit d = if nat_lt d 10 then 48 + d else 87 + d
 
@@ -39,14 +44,25 @@ hex_digit d = if nat_lt d 10 then 48 + d else 87 + d
 unfoldable pub hexadecimal : List ℕ → ℕ → List ℕ
 hexadecimal label c = label ++ hex_digit (c / 16) ∷ hex_digit (c % 16) ∷ []
 
--- a byte in a string of JSON, where it is one character, U+0000 to U+00FF
+-- a byte in a string of JSON: quotation mark, backslash and control characters are escaped
 unfoldable pub json_byte : ℕ → List ℕ
 json_byte c =
     if (c == 34) || (c == 92) then 92 ∷ c ∷ []
-    else if is_printed c then c ∷ [] else hexadecimal (codes "\\u00") c
+    else if nat_lt c 32 then hexadecimal (codes "\\u00") c else c ∷ []
 
+-- a string of JSON, of bytes that are UTF-8
 unfoldable pub json_string : List ℕ → List ℕ
 json_string path = codes "\"" ++ flat_map json_byte path ++ codes "\""
+
+-- the same of any bytes: two hexadecimal digits for each
+unfoldable pub hex_string : List ℕ → List ℕ
+hex_string path = codes "\"" ++ flat_map (hexadecimal []) path ++ codes "\""
+
+-- the value of a member that has a path, after the begin of its name: a string of JSON where the path is UTF-8,
+-- otherwise its bytes in hexadecimal digits, in a member whose name goes on with _bytes
+unfoldable pub path_value : List ℕ → List ℕ
+path_value path =
+    if is_utf8 path then codes "\":" ++ json_string path else codes "_bytes\":" ++ hex_string path
 
 -- what comes before the member of a list at this place
 unfoldable pub comma : ℕ → List ℕ

@@ -9,7 +9,7 @@ use crate::moves::{Move, Sums};
 use crate::roots::Roots;
 use crate::staying::Stay;
 use ceph_distributed::Advice;
-use ceph_plan::Planned;
+use ceph_plan::{PinRow, Planned};
 use ceph_snapshot::{Directory, Held};
 use mds_types::limits::RANK_LIMIT;
 use mds_types::{Rank, RankSet};
@@ -52,12 +52,18 @@ pub struct Facts<'a> {
     pub roots: &'a Roots,
     /// What each new pin brings.
     pub moves: &'a [Move],
+    /// Each directory's parent, pins and target, as they were planned.
+    pub rows: &'a [PinRow],
+    /// The rank that each directory is to be at.
+    pub goals: &'a [Rank],
     /// Of each directory whether it is left where it is, and why.
     pub stays: &'a [Option<Stay>],
     /// How many changes of pins there are.
     pub changes: usize,
     /// How many pins of an earlier plan stay as they are.
     pub standing: usize,
+    /// Whether there is so little heat that nothing is proposed and no ratio means anything.
+    pub is_idle: bool,
 }
 
 /// A directory that is hottest.

@@ -5,6 +5,7 @@
 pub mod check;
 pub mod facts;
 pub mod json;
+pub mod laws;
 pub mod mdbal_script;
 pub mod moves;
 pub mod picture;

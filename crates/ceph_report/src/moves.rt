@@ -1,10 +1,12 @@
 //! What goes where: heat and inodes by rank, and by pin.
 
 ghost use Rattle.std.specs.Prelude.{◌≡◌, ◌==◌, ◌&&◌, ◌<◌, ◌≤◌, ◌+◌, is_some, not, length, slice_index, IfOk};
-ghost use Rattle.std.specs.Prelude.{None, slice_index_or, ℕ};
+ghost use Rattle.std.specs.Prelude.{None, min, slice_index_or, ℕ};
 ghost use Rattle.ceph_plan.specs.Rule.{parent_at};
 ghost use Rattle.ceph_snapshot.specs.Rows.{is_free};
-ghost use Rattle.ceph_report.specs.Amounts.{AreAmounts, goal_at, goal_of, going_of, heat_now, inodes_from, inodes_to};
+ghost use Rattle.ceph_snapshot.specs.Holding.{most_heat};
+ghost use Rattle.ceph_report.specs.Amounts.{AreAmounts, cold_inodes, goal_at, goal_of, going_of, heat_going, heat_now};
+ghost use Rattle.ceph_report.specs.Amounts.{inodes_from, inodes_to};
 ghost use Rattle.ceph_report.specs.Moves.{AreLeaders, AreMoves, brought_at, leader_of, leaving_at, moves_below};
 ghost use Rattle.ceph_report.specs.Moves.{pin_move};
 
@@ -15,7 +17,7 @@ use mds_types::Rank;
 use mds_types::limits::RANK_LIMIT;
 use std::alloc::{AllocError, Global};
 
-/// Numbers of each of 64 ranks.
+/// Numbers of each of 64 ranks, and of what goes to another rank.
 #[derive(Drop)]
 pub struct Sums {
     /// `now[r]` is the heat of what is at rank r now, in thousandths.
@@ -24,6 +26,10 @@ pub struct Sums {
     pub into: Vec<u64>,
     /// `out[r]` is how many inodes go from rank r.
     pub out: Vec<u64>,
+    /// How many inodes go to another rank in directories without heat of their own.
+    pub cold: u64,
+    /// The heat that goes to another rank, in thousandths.
+    pub heat: u64,
 }
 
 /// The rank that a directory is to be at: where it is held, or else its target.
@@ -133,6 +139,36 @@ fn inodes_away(
     Ok(inodes)
 }
 
+/// The inodes that go to another rank in directories without heat of their own.
+fn cold_inodes(directories: &[Directory], holds: &[Held], goals: &[Rank]) -> u64
+    requires holds { length holds.now ≡ length directories.now }
+    requires goals { length goals.now ≡ length directories.now }
+    ensures { result ≡ min most_heat (cold_inodes directories.now holds.now goals.now (length directories.now)) }
+{
+    let mut inodes = 0u64;
+    for (at, directory) in directories.iter().enumerate() {
+        if directory.heat == 0 {
+            let more = going(directory.now, holds[at], goals[at], directory.inodes);
+            inodes = inodes.saturating_add(more);
+        }
+    }
+    inodes
+}
+
+/// The heat that goes to another rank, in thousandths.
+fn heat_going(directories: &[Directory], holds: &[Held], goals: &[Rank]) -> u64
+    requires holds { length holds.now ≡ length directories.now }
+    requires goals { length goals.now ≡ length directories.now }
+    ensures { result ≡ min most_heat (heat_going directories.now holds.now goals.now (length directories.now)) }
+{
+    let mut heat = 0u64;
+    for (at, directory) in directories.iter().enumerate() {
+        let more = going(directory.now, holds[at], goals[at], directory.heat);
+        heat = heat.saturating_add(more);
+    }
+    heat
+}
+
 /// The numbers of each of 64 ranks. `goals[i]` is the rank that directory i is to
 /// be at, and `spread` the heat of what is spread.
 pub fn sums_of(
@@ -151,11 +187,21 @@ pub fn sums_of(
         (λ r. inodes_to directories.now holds.now goals.now r (length directories.now))) }
     ensures out { IfOk result (λ sums. AreAmounts sums.out.items
         (λ r. inodes_from directories.now holds.now goals.now r (length directories.now))) }
+    ensures cold { IfOk result (λ sums. sums.cold
+        ≡ min most_heat (cold_inodes directories.now holds.now goals.now (length directories.now))) }
+    ensures heat { IfOk result (λ sums. sums.heat
+        ≡ min most_heat (heat_going directories.now holds.now goals.now (length directories.now))) }
 {
     let now = heats_now(alloc, directories, spread)?;
     let into = inodes_into(alloc, directories, holds, goals)?;
     let out = inodes_away(alloc, directories, holds, goals)?;
-    Ok(Sums { now, into, out })
+    Ok(Sums {
+        now,
+        into,
+        out,
+        cold: cold_inodes(directories, holds, goals),
+        heat: heat_going(directories, holds, goals),
+    })
 }
 
 /// What a pin brings to its rank.

@@ -5,9 +5,10 @@ ghost use Rattle.ceph_snapshot.specs.Holding.{heat_at};
 ghost use Rattle.ceph_report.specs.Report.{absence, absent_line, absent_lines, bound_lines, brought_line};
 ghost use Rattle.ceph_report.specs.Report.{brought_lines, brought_text, capped_line, capped_lines, capped_text};
 ghost use Rattle.ceph_report.specs.Report.{count_line, folded_line, head_line, heat_lines, hot_count, hottest_line};
-ghost use Rattle.ceph_report.specs.Report.{left_out, mode_text, more_line, moves_table, over_line, over_lines};
-ghost use Rattle.ceph_report.specs.Report.{moves_text, over_text, plan_text, rank_heats, rank_inodes};
-ghost use Rattle.ceph_report.specs.Report.{rank_roots, rank_row, rank_table, report, standing_text, term_text};
+ghost use Rattle.ceph_report.specs.Report.{left_out, mode_text, more_line, move_counts, moves_table, nothing_text};
+ghost use Rattle.ceph_report.specs.Report.{moves_text, over_line, over_lines, over_text, plan_text, rank_heats};
+ghost use Rattle.ceph_report.specs.Report.{rank_inodes, rank_roots, rank_row, rank_table, ratio_text, report};
+ghost use Rattle.ceph_report.specs.Report.{standing_text, term_text};
 ghost use Rattle.ceph_report.specs.Report.{told_line};
 ghost use Rattle.ceph_report.specs.Text.{place_text};
 
@@ -16,7 +17,8 @@ use crate::moves::Move;
 use crate::spreading::push_advice;
 use crate::staying_text::push_all_left;
 use crate::text::{
-    per_mille, push_columns, push_heat, push_number, push_path, push_percent, push_text,
+    per_mille, per_mille_above, push_columns, push_heat, push_number, push_path, push_percent,
+    push_text,
 };
 use ceph_snapshot::Directory;
 use mds_types::limits::{HEAT_LIMIT, RANK_LIMIT};
@@ -121,7 +123,8 @@ fn push_ranks(text: &mut Vec<u8>, facts: &Facts) -> Result<(), AllocError>
 /// What is said of the bound and of heat.
 const CAVEAT: &str =
     "  No assignment of these directories to these ranks, connected or not, has a cooler hottest rank than the bound.
-  Heat is a sample: it lies 3 to 5 % from the load that is offered, and more behind a walk over the directories.
+  Heat is the mean of the samples: load that comes or goes between them is not in it, and a walk over the directories
+  adds to it.
 
 ";
 
@@ -136,31 +139,49 @@ fn term_text(term: BoundTerm) -> &'static str
     }
 }
 
-/// Adds the heat of the hottest rank, and the bound.
+/// Adds a label, tenths of a percent, and what comes after them, unless there is so little heat that a ratio says
+/// nothing.
+#[tactic(auto, unfolding(crate::specs::Report::ratio_text))]
+fn push_ratio(
+    text: &mut Vec<u8>,
+    facts: &Facts,
+    label: &str,
+    tenths: u64,
+    after: &str,
+) -> Result<(), AllocError>
+    ensures { OnOk result (text.new.items ≡ text.old.items ++ ratio_text facts.now label.now tenths after.now) }
+{
+    if facts.is_idle {
+        return Ok(());
+    }
+    push_percent(text, label, tenths)?;
+    push_text(text, after)
+}
+
+/// Adds the heat of the hottest rank, now and as planned, and the heat that moves.
 #[tactic(auto, unfolding(crate::specs::Report::heat_lines))]
 fn push_heats(text: &mut Vec<u8>, facts: &Facts) -> Result<(), AllocError>
     ensures { OnOk result (text.new.items ≡ text.old.items ++ heat_lines facts.now) }
 {
     let (now, planned) = (facts.hottest_now(), facts.hottest_planned());
-    let bound = facts.hottest_bound();
     push_heat(text, "\nhottest rank now     ", now)?;
     push_heat(text, "\nhottest rank planned ", planned)?;
     let cooler = per_mille(now.saturating_sub(planned), now);
-    push_percent(text, ", cooler than now: ", cooler)?;
-    push_heat(text, "\nlower bound          ", bound)?;
-    let within = per_mille(planned.saturating_sub(bound), bound);
-    push_percent(text, ", the plan is within ", within)?;
-    push_text(text, " of it")
+    push_ratio(text, facts, ", cooler than now: ", cooler, "")?;
+    push_heat(text, "\nheat that moves      ", facts.sums.heat)
 }
 
-/// Adds the heat of the hottest rank, the bound, and which term makes it.
+/// Adds the bound, which term makes it, and how far the plan is above it.
 #[tactic(auto, unfolding(crate::specs::Report::bound_lines))]
 fn push_bound(text: &mut Vec<u8>, facts: &Facts) -> Result<(), AllocError>
     ensures { OnOk result (text.new.items ≡ text.old.items ++ bound_lines facts.now) }
 {
-    push_heats(text, facts)?;
-    push_text(text, ": ")?;
-    push_text(text, term_text(facts.bound_term()))
+    let (planned, bound) = (facts.hottest_planned(), facts.hottest_bound());
+    push_heat(text, "\nlower bound          ", bound)?;
+    push_text(text, "  ")?;
+    push_text(text, term_text(facts.bound_term()))?;
+    let above = per_mille_above(planned.saturating_sub(bound), bound);
+    push_ratio(text, facts, "; the plan is ", above, " above it")
 }
 
 /// Adds the hottest directory that was collected.
@@ -190,14 +211,24 @@ fn push_standing(text: &mut Vec<u8>, count: usize) -> Result<(), AllocError>
 const OVER: &str =
     "hotter than a fair share, and no pin divides it (ceph.dir.pin.distributed spreads its fragments):";
 
-/// Adds how many parts there are, and what changes.
+/// Adds how many parts there are, and what moves.
+#[tactic(auto, unfolding(crate::specs::Report::move_counts))]
+fn push_move_counts(text: &mut Vec<u8>, facts: &Facts) -> Result<(), AllocError>
+    ensures { OnOk result (text.new.items ≡ text.old.items ++ move_counts facts.now) }
+{
+    push_number(text, CAVEAT, u64::from(facts.plan.count))?;
+    push_number(text, " parts, ", facts.plan.moved)?;
+    push_number(text, " inodes move (", facts.sums.cold)?;
+    push_text(text, " of them without heat), ")
+}
+
+/// Adds how many parts there are, what moves, and what changes.
 #[tactic(auto, unfolding(crate::specs::Report::count_line))]
 fn push_counts(text: &mut Vec<u8>, facts: &Facts) -> Result<(), AllocError>
     ensures { OnOk result (text.new.items ≡ text.old.items ++ count_line facts.now) }
 {
-    push_number(text, CAVEAT, u64::from(facts.plan.count))?;
-    push_number(text, " parts, ", facts.plan.moved)?;
-    push_number(text, " inodes move, ", facts.changes as u64)?;
+    push_move_counts(text, facts)?;
+    push_number(text, "", facts.changes as u64)?;
     push_text(text, " changes of pins")?;
     push_standing(text, facts.standing)?;
     push_text(text, "\n")
@@ -456,6 +487,20 @@ fn push_all_capped(text: &mut Vec<u8>, directories: &[Directory]) -> Result<(), 
 /// The last line of the report where nothing is proposed.
 const NOTHING: &str = "\nnothing is proposed: the plan gains less than is asked for\n";
 
+/// The same where there is too little heat.
+const IDLE: &str = "\nnothing is proposed: there is less heat than --least-heat asks for\n";
+
+/// The last line of the report where nothing is proposed; empty where something is.
+fn nothing_text(is_proposed: bool, is_idle: bool) -> &'static str
+    ensures { result.now ≡ nothing_text is_proposed is_idle }
+{
+    match (is_proposed, is_idle) {
+        (true, _) => "",
+        (false, true) => IDLE,
+        (false, false) => NOTHING,
+    }
+}
+
 /// Adds what the plan comes to.
 #[tactic(auto, unfolding(crate::specs::Report::plan_text))]
 fn push_plan(text: &mut Vec<u8>, facts: &Facts) -> Result<(), AllocError>
@@ -463,6 +508,7 @@ fn push_plan(text: &mut Vec<u8>, facts: &Facts) -> Result<(), AllocError>
 {
     push_head(text, facts)?;
     push_ranks(text, facts)?;
+    push_heats(text, facts)?;
     push_bound(text, facts)?;
     push_hottest(text, facts)?;
     push_counts(text, facts)?;
@@ -491,6 +537,6 @@ pub fn make_report(alloc: Global, facts: &Facts, is_proposed: bool) -> Result<Ve
     let mut text = Vec::new(alloc);
     push_plan(&mut text, facts)?;
     push_left_out(&mut text, facts)?;
-    push_text(&mut text, if is_proposed { "" } else { NOTHING })?;
+    push_text(&mut text, nothing_text(is_proposed, facts.is_idle))?;
     Ok(text)
 }

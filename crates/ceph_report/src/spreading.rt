@@ -1,10 +1,11 @@
 //! What Ceph's policy of distributed pins would give: a line of the report, and a member of the JSON.
 ghost use Rattle.std.specs.Prelude.{◌≡◌, ◌++◌, OnOk};
 ghost use Rattle.ceph_report.specs.Spreading.{advice_line, advice_member, advice_object, advice_text};
-ghost use Rattle.ceph_report.specs.Spreading.{children_text, fair_shares, hundredths_text, spread_text};
+ghost use Rattle.ceph_report.specs.Spreading.{children_text, fair_shares, hundredths_text, is_near, near_line};
+ghost use Rattle.ceph_report.specs.Spreading.{planned_share, spread_share, spread_text};
 
 use crate::facts::{Facts, hottest};
-use crate::text::{push_number, push_path, push_string, push_text};
+use crate::text::{push_number, push_path, push_path_value, push_text};
 use ceph_distributed::Advice;
 use std::alloc::AllocError;
 
@@ -41,6 +42,27 @@ fn push_children(text: &mut Vec<u8>, advice: &Advice, all: u128) -> Result<(), A
     push_text(text, " % of the heat")
 }
 
+/// How many times the mean of these ranks the hottest of them would have, in hundredths.
+fn spread_share(advice: &Advice, ranks: u8) -> u64
+    ensures { result ≡ spread_share advice.now ranks }
+{
+    fair_shares(hottest(&advice.spread), ranks, u128::from(advice.heat))
+}
+
+/// The same as planned, of the ranks that may have a part.
+fn planned_share(facts: &Facts) -> u64
+    ensures { result ≡ planned_share facts.now }
+{
+    fair_shares(facts.hottest_planned(), facts.ranks.len(), facts.heat_now())
+}
+
+/// Whether the policy comes to at most a tenth above the plan.
+fn is_near(spread: u64, planned: u64) -> bool
+    ensures { result ≡ is_near spread planned }
+{
+    u128::from(spread) * 10 <= u128::from(planned) * 11
+}
+
 /// Adds over how many ranks the policy would spread it, and how evenly.
 #[tactic(auto, unfolding(crate::specs::Spreading::spread_text))]
 fn push_spread(text: &mut Vec<u8>, advice: &Advice, ranks: u8) -> Result<(), AllocError>
@@ -48,8 +70,7 @@ fn push_spread(text: &mut Vec<u8>, advice: &Advice, ranks: u8) -> Result<(), All
 {
     let label = "; ceph.dir.pin.distributed would spread it over ";
     push_number(text, label, u64::from(ranks))?;
-    let shares = fair_shares(hottest(&advice.spread), ranks, u128::from(advice.heat));
-    push_hundredths(text, " ranks, the hottest at ", shares)
+    push_hundredths(text, " ranks, the hottest at ", spread_share(advice, ranks))
 }
 
 /// Adds the line of a directory whose children the policy would spread.
@@ -57,12 +78,22 @@ fn push_spread(text: &mut Vec<u8>, advice: &Advice, ranks: u8) -> Result<(), All
 fn push_line(text: &mut Vec<u8>, facts: &Facts, advice: &Advice) -> Result<(), AllocError>
     ensures { OnOk result (text.new.items ≡ text.old.items ++ advice_line facts.now advice.now) }
 {
-    let all = facts.heat_now();
-    let planned = fair_shares(facts.hottest_planned(), facts.ranks.len(), all);
-    push_children(text, advice, all)?;
+    push_children(text, advice, facts.heat_now())?;
     push_spread(text, advice, facts.size)?;
-    push_hundredths(text, " of the mean (the plan: ", planned)?;
+    push_hundredths(text, " of the mean (the plan: ", planned_share(facts))?;
     push_text(text, ")\n")
+}
+
+/// Adds the line, if the policy comes near the plan or is better.
+#[tactic(auto, unfolding(crate::specs::Spreading::near_line))]
+fn push_near(text: &mut Vec<u8>, facts: &Facts, advice: &Advice) -> Result<(), AllocError>
+    ensures { OnOk result (text.new.items ≡ text.old.items ++ near_line facts.now advice.now) }
+{
+    if is_near(spread_share(advice, facts.size), planned_share(facts)) {
+        push_line(text, facts, advice)
+    } else {
+        Ok(())
+    }
 }
 
 /// Adds the line, if there is such a directory.
@@ -71,7 +102,7 @@ pub(crate) fn push_advice(text: &mut Vec<u8>, facts: &Facts) -> Result<(), Alloc
     ensures { OnOk result (text.new.items ≡ text.old.items ++ advice_text facts.now facts.now.advice) }
 {
     match facts.advice {
-        Some(advice) => push_line(text, facts, advice),
+        Some(advice) => push_near(text, facts, advice),
         None => Ok(()),
     }
 }
@@ -81,8 +112,8 @@ pub(crate) fn push_advice(text: &mut Vec<u8>, facts: &Facts) -> Result<(), Alloc
 fn push_object(text: &mut Vec<u8>, advice: &Advice, ranks: u8) -> Result<(), AllocError>
     ensures { OnOk result (text.new.items ≡ text.old.items ++ advice_object advice.now ranks) }
 {
-    push_text(text, ",\n\"distributed\":{\"path\":")?;
-    push_string(text, &advice.path)?;
+    push_text(text, ",\n\"distributed\":{\"path")?;
+    push_path_value(text, &advice.path)?;
     push_number(text, ",\"children\":", advice.children as u64)?;
     push_number(text, ",\"heat\":", advice.heat)?;
     push_number(text, ",\"hottest\":", hottest(&advice.spread))?;

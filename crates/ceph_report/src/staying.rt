@@ -17,6 +17,8 @@ pub enum Reason {
     Policy(EphemeralPin),
     /// Somebody's pin to a rank that isn't there.
     Absent,
+    /// Its inode number over the mount is another one than in the dumps, or it has none there.
+    Doubtful,
     /// It is at several ranks, or Ceph pinned it by a policy that isn't known.
     Spread,
 }
@@ -90,12 +92,19 @@ fn is_torn(directories: &[Directory], leaders: &[usize], at: usize) -> bool
 }
 
 /// Whether a directory with this policy is left where it is, and why.
-fn stay_of(policy: Option<EphemeralPin>, is_absent: bool, is_torn: bool, below: u64) -> Option<Stay>
-    ensures { result ≡ stay_of policy is_absent is_torn below }
+fn stay_of(
+    policy: Option<EphemeralPin>,
+    is_absent: bool,
+    is_doubtful: bool,
+    is_torn: bool,
+    below: u64,
+) -> Option<Stay>
+    ensures { result ≡ stay_of policy is_absent is_doubtful is_torn below }
 {
     let (why, below) = match policy {
         Some(policy) => (Reason::Policy(policy), below),
         None if is_absent => (Reason::Absent, 0),
+        None if is_doubtful => (Reason::Doubtful, 0),
         None if is_torn => (Reason::Spread, 0),
         None => return None,
     };
@@ -116,6 +125,7 @@ fn stay_at(directories: &[Directory], leaders: &[usize], counts: &[u64], at: usi
     stay_of(
         directory.policy,
         directory.idle.is_some(),
+        directory.is_doubtful,
         is_torn,
         counts[at],
     )

@@ -25,6 +25,7 @@ fn reason_text(why: Reason) -> &'static str
         Reason::Policy(EphemeralPin::Random) => ", held by its random policy",
         Reason::Policy(EphemeralPin::Unknown) => ", pinned by Ceph itself",
         Reason::Absent => ", pinned by others to a rank that is not there",
+        Reason::Doubtful => ", another directory over the mount, or none, by its inode number",
         Reason::Spread => ", at several ranks or pinned by Ceph itself",
     }
 }
@@ -75,6 +76,7 @@ fn reason_name(why: Reason) -> &'static str
         Reason::Policy(EphemeralPin::Random) => "random",
         Reason::Policy(EphemeralPin::Unknown) => "ephemeral",
         Reason::Absent => "absent_rank",
+        Reason::Doubtful => "inode_number",
         Reason::Spread => "several_ranks",
     }
 }
@@ -89,7 +91,7 @@ fn push_left_object(
 ) -> Result<(), AllocError>
     ensures { OnOk result (text.new.items ≡ text.old.items ++ left_object directories.now stay at) }
 {
-    push_text(text, "\n  {\"path\":")?;
+    push_text(text, "\n  {\"path")?;
     json::push_place(text, directories, at)?;
     push_text(text, ",\"why\":\"")?;
     push_text(text, reason_name(stay.why))?;

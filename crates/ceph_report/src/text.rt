@@ -1,9 +1,11 @@
 //! Numbers and paths as they are written.
-ghost use Rattle.std.specs.Prelude.{◌≡◌, ◌≤◌, ◌++◌, OnOk};
+ghost use Rattle.std.specs.Prelude.{◌≡◌, ◌≤◌, ◌++◌, [], OnOk};
 ghost use Rattle.std.specs.List.{flat_map};
+ghost use Rattle.std.specs.Str.{is_utf8};
 ghost use Rattle.ceph_snapshot.specs.Shown.{shown_byte, shown_path};
 ghost use Rattle.ceph_report.specs.Text.{columns, comma, field, heat_text, hex_digit, hexadecimal, json_byte};
-ghost use Rattle.ceph_report.specs.Text.{json_string, per_mille, percent_text};
+ghost use Rattle.ceph_report.specs.Text.{hex_string, json_string, path_value, per_mille, per_mille_above};
+ghost use Rattle.ceph_report.specs.Text.{percent_text};
 
 use itoa::Buffer;
 use std::alloc::AllocError;
@@ -50,7 +52,7 @@ pub(crate) fn push_heat(text: &mut Vec<u8>, label: &str, heat: u64) -> Result<()
     push_number(text, ".", heat % 1000 / 100)
 }
 
-/// A part of a whole in tenths of a percent; 0 where the whole is 0.
+/// A part of a whole in tenths of a percent, rounded down; 0 where the whole is 0.
 #[tactic(auto, unfolding(crate::specs::Text::per_mille))]
 pub(crate) fn per_mille(part: u64, whole: u64) -> u64
     ensures { result ≡ per_mille part whole }
@@ -59,6 +61,18 @@ pub(crate) fn per_mille(part: u64, whole: u64) -> u64
         return 0;
     }
     part.saturating_mul(1000) / whole
+}
+
+/// A part of a whole in tenths of a percent, rounded up; 0 where the whole is 0.
+#[tactic(auto, unfolding(crate::specs::Text::per_mille_above))]
+pub(crate) fn per_mille_above(part: u64, whole: u64) -> u64
+    ensures { result ≡ per_mille_above part whole }
+{
+    if whole == 0 {
+        return 0;
+    }
+    let tenths = (u128::from(part) * 1000 + u128::from(whole - 1)) / u128::from(whole);
+    u128::from(u64::MAX).min(tenths) as u64
 }
 
 /// Adds a label, and tenths of a percent.
@@ -129,11 +143,11 @@ fn push_json_byte(text: &mut Vec<u8>, byte: u8) -> Result<(), AllocError>
 {
     match byte {
         b'"' | b'\\' => text.extend_from_slice(&[b'\\', byte]),
-        b' '..=b'~' => {
-            text.push(byte)?;
+        0..=31 => push_hexadecimal(text, "\\u00", byte),
+        other => {
+            text.push(other)?;
             Ok(())
         }
-        other => push_hexadecimal(text, "\\u00", other),
     }
 }
 
@@ -147,9 +161,51 @@ fn push_json_bytes(text: &mut Vec<u8>, path: &[u8]) -> Result<(), AllocError>
     Ok(())
 }
 
-/// Adds a path as a string of JSON.
+/// Adds two hexadecimal digits for each byte.
+fn push_hex_bytes(text: &mut Vec<u8>, path: &[u8]) -> Result<(), AllocError>
+    ensures { OnOk result (text.new.items ≡ text.old.items ++ flat_map (hexadecimal []) path.now) }
+{
+    for byte in path {
+        push_hexadecimal(text, "", *byte)?;
+    }
+    Ok(())
+}
+
+/// Adds bytes as a string of hexadecimal digits.
+#[tactic(auto, unfolding(crate::specs::Text::hex_string))]
+fn push_hex_string(text: &mut Vec<u8>, path: &[u8]) -> Result<(), AllocError>
+    ensures { OnOk result (text.new.items ≡ text.old.items ++ hex_string path.now) }
+{
+    push_text(text, "\"")?;
+    push_hex_bytes(text, path)?;
+    push_text(text, "\"")
+}
+
+/// Whether bytes are UTF-8.
+fn is_text(bytes: &[u8]) -> bool
+    ensures { result ≡ is_utf8 bytes.now }
+{
+    str::from_utf8(bytes).is_ok()
+}
+
+/// Adds a path after the begin of a member's name: as text where it is UTF-8, otherwise its bytes in hexadecimal
+/// digits under a name that goes on with `_bytes`.
+#[tactic(auto, unfolding(crate::specs::Text::path_value))]
+pub(crate) fn push_path_value(text: &mut Vec<u8>, path: &[u8]) -> Result<(), AllocError>
+    ensures { OnOk result (text.new.items ≡ text.old.items ++ path_value path.now) }
+{
+    if is_text(path) {
+        push_text(text, "\":")?;
+        push_string(text, path)
+    } else {
+        push_text(text, "_bytes\":")?;
+        push_hex_string(text, path)
+    }
+}
+
+/// Adds a path that is UTF-8 as a string of JSON.
 #[tactic(auto, unfolding(crate::specs::Text::json_string))]
-pub(crate) fn push_string(text: &mut Vec<u8>, path: &[u8]) -> Result<(), AllocError>
+fn push_string(text: &mut Vec<u8>, path: &[u8]) -> Result<(), AllocError>
     ensures { OnOk result (text.new.items ≡ text.old.items ++ json_string path.now) }
 {
     push_text(text, "\"")?;

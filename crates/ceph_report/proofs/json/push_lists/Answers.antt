@@ -1,0 +1,10 @@
+use Rattle.std.proofs.Common.{◌∙◌, append_assoc}
+use Rattle.std.proofs.lemmas.Result.{on_ok_weaker}
+use Rattle.ceph_report.specs.Json.{change_lists}
+use Rattle.ceph_report.proofs.json.push_lists.Goals as goal
+
+pub returns : goal.returns
+unfolding change_lists
+returns c = on_ok_weaker c.push_text-3.result
+    (λ e. e ∙ simp (append_assoc, c.in_ok-push_changes-2.ensures, c.in_ok-push_text-2.ensures, c.in_ok-push_changes.ensures, c.in_ok-push_text.ensures))
+    c.push_text-3.ensures

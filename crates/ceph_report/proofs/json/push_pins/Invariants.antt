@@ -1,8 +1,0 @@
-use Rattle.std.proofs.Common.{◌≡◌, ◌++◌, slice_get}
-use Rattle.ceph_report.specs.Text.{lines_below}
-use Rattle.ceph_report.specs.Json.{pin_member}
-use Rattle.ceph_report.proofs.json.push_pins.Given as goal
-
-abbrev pub invariant-loop-at : goal.invariant-loop-at
-invariant-loop-at l =
-    l.text.items ≡ l.initial.text.items ++ lines_below (λ i. pin_member l.directories i (slice_get l.changes i)) l.at
