@@ -162,12 +162,17 @@ def plan(out, mount, options):
     says("collect", *run("sh", COLLECT, name_of_fs(), f"{out}/dumps", "--samples", "4", "--mount", mount))
     says("plan", *run("mdbal_ceph", f"{out}/dumps", "--pins", f"{out}/pins.sh", "--mount", mount, *options))
     found = json.loads(run("mdbal_ceph", f"{out}/dumps", "--mount", mount, "--json", *options)[0].stdout)
-    changes = {it["path"].encode("latin-1"): it["rank"] for it in found["pins"]}
+    changes = {path_of(it): it["pin_after"] for it in found["changes"]}
     tell(f"{len(changes)} changes, {sum(it.startswith(b'/odd/') for it in changes)} of them on odd names")
     check("no pin to an absent rank", all(it in (-1, *RANKS) for it in changes.values()))
     check("nothing of policies or other people's pins is changed",
           not any(is_held(it) or b"/" + it.split(b"/")[1] in PINS for it in changes))
     return changes
+
+
+def path_of(it):
+    """The path of a directory in the plan."""
+    return it["path"].encode() if "path" in it else bytes.fromhex(it["path_bytes"])
 
 
 def name_of_fs():

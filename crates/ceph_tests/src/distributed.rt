@@ -87,6 +87,7 @@ fn plain(rt: &impl Abort, alloc: Global, path: &str, parent: u32, inode: Option<
         idle: None,
         earlier: None,
         policy: None,
+        is_doubtful: false,
         is_kept: false,
         is_spread: false,
     }

@@ -11,21 +11,24 @@ use std::alloc::Global;
 use std::mem;
 use std::process::Abort;
 
-/// A dump of loads with a name that isn't UTF-8, an escape, two fragments and a bare `-inf`.
+/// A dump of loads with a name that isn't UTF-8, an escape, five different counters and a bare `-inf`.
 const LOADS: &[u8] = b"\n{\"dirfrags\":[{\"path\":\"\",\"dirfrag\":\"0x1\",\
 \"pop_me\":{\"Decay Counters\":[{\"value\":1.5,\"halflife\":5},{\"value\":2}]}},\
 {\"path\":\"/h/bad-\xff\xc3\",\
 \"pop_me\":{\"Decay Counters\":[{\"value\":0},{\"value\":0},{\"value\":0},{\"value\":0},{\"value\":0.25}]}},\
+{\"path\":\"/h/all\",\
+\"pop_me\":{\"Decay Counters\":[{\"value\":1},{\"value\":2},{\"value\":4},{\"value\":8},{\"value\":16}]}},\
 {\"path\":\"/h/new\\nline \\\"-inf\\\"\",\"pop_me\":{\"Decay Counters\":[]}}],\
 \"mds_load\":{\"mds.0\":{\"halflife\":-inf}}}";
 
 /// A path with its heat, and what of it comes from writes.
 pub(crate) type Written<'a> = (&'a [u8], (u64, u64));
 
-/// What it says.
+/// What it says: with weights of 1, 2, 1, 2 and 4, where a store is two writes.
 const HEATS: &[Written<'static>] = &[
     (b"", (5500, 2000)),
     (b"/h/bad-\xff\xc3", (1000, 500)),
+    (b"/h/all", (89_000, 34_000)),
     (b"/h/new\nline \"-inf\"", (0, 0)),
 ];
 
@@ -88,7 +91,7 @@ fn set(text: &mut [u8], at: usize, byte: u8) -> u8 {
 fn break_byte(rt: &impl Abort, alloc: Global, text: &mut [u8], at: usize) {
     for byte in [b'\0', b'"', b'\\', b'{', b']', b',', b'-', 0xff] {
         let before = set(text, at, byte);
-        holds_in(rt, told(alloc, text) <= 3, &(byte, at));
+        holds_in(rt, told(alloc, text) <= 4, &(byte, at));
         set(text, at, before);
     }
 }
@@ -150,23 +153,30 @@ fn tells_where_a_dump_is_broken(rt: HostRuntime) {
     same(&rt, &told.as_str(), &wanted);
 }
 
-/// Two roots: one that is here and spread, and a rank's own directory.
+/// Roots: two that are here, one in a fragment and distributed, one random; a rank's own directory; one without a flag.
 const ROOTS: &[u8] = b"[{\"is_auth\":true,\"auth_first\":1,\"auth_second\":-2,\"export_pin\":2,\
-\"distributed_ephemeral_pin\":true,\"dir\":{\"path\":\"/u\"}},\
-{\"is_auth\":false,\"auth_first\":0,\"auth_second\":-2,\"export_pin\":-1,\"dir\":{\"path\":\"~mds0\"}}]";
+\"distributed_ephemeral_pin\":true,\"dir\":{\"path\":\"/u\",\"dirfrag\":\"0x10000000000.0*\"}},\
+{\"is_auth\":true,\"auth_first\":1,\"auth_second\":-2,\"export_pin\":0,\
+\"random_ephemeral_pin\":true,\"dir\":{\"path\":\"/r\"}},\
+{\"is_auth\":false,\"auth_first\":0,\"auth_second\":-2,\"export_pin\":-1,\"dir\":{\"path\":\"~mds0\"}},\
+{\"is_auth\":false,\"auth_first\":2,\"auth_second\":-2,\"dir\":{\"path\":\"/bad-\xff\"}}]";
 
-/// The path of a root, whether it is here and spread, and the pin.
-type Root<'a> = (&'a [u8], (bool, bool, Option<i64>));
+/// The path of a root, whether it is here and spread, and the pin; which rank has it, and the fragment.
+type Root<'a> = (&'a [u8], (bool, bool, Option<i64>), (i64, Option<&'a str>));
 
 /// What they say.
 const TOLD_ROOTS: &[Root<'static>] = &[
-    (b"/u", (true, true, Some(2))),
-    (b"~mds0", (false, false, None)),
+    (b"/u", (true, true, Some(2)), (1, Some("0x10000000000.0*"))),
+    (b"/r", (true, true, Some(0)), (1, None)),
+    (b"~mds0", (false, false, None), (0, None)),
+    (b"/bad-\xff", (false, false, None), (2, None)),
 ];
 
 impl<'a> Row<Root<'a>> for SubtreeRoot {
     fn is_as(&self, row: &Root<'a>) -> bool {
-        self.path.as_slice() == row.0 && (self.is_here, self.is_spread, self.pin) == row.1
+        let is_same_place = self.path.as_slice() == row.0;
+        let pins = (self.is_here, self.is_spread, self.pin);
+        is_same_place && pins == row.1 && (self.authority, self.fragment.as_deref()) == row.2
     }
 }
 
@@ -235,7 +245,7 @@ fn refuses_ranks_it_cant_plan_for(rt: HostRuntime) {
 /// A listing of directories, each with one value.
 const LISTING: &[u8] =
     b"# file: .\nceph.dir.entries=\"7\"\n\n# file: h/cr\\015ret \\134\nceph.dir.entries=\"4\"\n\n\
-# file: h\nceph.dir.pin=\"2\"\n\n# file: w\nceph.dir.pin=\"-1\"\n\n\
+# file: h\nceph.dir.pin=\"12\"\n\n# file: w\nceph.dir.pin=\"-1\"\n\n\
 # file: d\nceph.dir.pin.distributed=\"1\"\n\n# file: e\nceph.dir.pin.distributed=\"0\"\n\n\
 # file: r\nceph.dir.pin.random=\"1.0\"\n\n# file: s\nceph.dir.pin.random=\"0.000000\"\n";
 
@@ -246,7 +256,7 @@ type Listed<'a> = (&'a [u8], Option<u64>, Option<u64>, Option<EphemeralPin>);
 const LISTED: &[Listed<'static>] = &[
     (b"", Some(7), None, None),
     (b"/h/cr\rret \\", Some(4), None, None),
-    (b"/h", None, Some(2), None),
+    (b"/h", None, Some(12), None),
     (b"/w", None, None, None),
     (b"/d", None, None, Some(EphemeralPin::Distributed)),
     (b"/e", None, None, None),
@@ -260,6 +270,7 @@ impl<'a> Row<Listed<'a>> for ListedDir {
             ListedValue::Entries(count) => (Some(count), None, None),
             ListedValue::Pin(pin) => (None, pin, None),
             ListedValue::Policy(policy) => (None, None, policy),
+            ListedValue::Inode(number) => (Some(number), Some(number), None),
         };
         self.path.as_slice() == row.0 && (entries, pin, policy) == (row.1, row.2, row.3)
     }
@@ -320,6 +331,46 @@ fn reads_which_file_system_it_is(rt: HostRuntime) {
 fn reads_loads(rt: HostRuntime) {
     let found = read_loads(rt.alloc(), LOADS).sure(&rt);
     same_rows(&rt, &found, HEATS, "loads");
+}
+
+/// Counters of a fragment, as JSON, with the heat that they come to and what of it comes from writes.
+const COUNTED: &[(&[u8], (u64, u64))] = &[
+    (b"[1,10,100,1000,10000]", (42_121_000, 20_010_000)),
+    (b"[1,0,0,0,0]", (1000, 0)),
+    (b"[0,1,0,0,0]", (2000, 1000)),
+    (b"[0,0,1,0,0]", (1000, 0)),
+    (b"[0,0,0,1,0]", (2000, 0)),
+    (b"[0,0,0,0,1]", (4000, 2000)),
+    (b"[0.0014,0.0001]", (2, 0)),
+    (b"[0.0015]", (2, 0)),
+    (b"[0.0014]", (1, 0)),
+    (b"[0.0003,0,0,0]", (0, 0)),
+];
+
+/// A dump of loads of `/a` with these counters.
+fn counters_of(rt: &impl Abort, alloc: Global, counters: &[u8]) -> Vec<u8> {
+    let mut text = Vec::from_slice(alloc, b"{\"dirfrags\":[{\"path\":\"/a\",").sure(rt);
+    text.extend_from_slice(b"\"pop_me\":{\"Decay Counters\":[")
+        .sure(rt);
+    let numbers = counters.split(|byte| matches!(*byte, b'[' | b',' | b']'));
+    for number in numbers.filter(|number| !number.is_empty()) {
+        let comma: &[u8] = if text.ends_with(b"[") { b"" } else { b"," };
+        text.extend_from_slice(comma).sure(rt);
+        text.extend_from_slice(b"{\"value\":").sure(rt);
+        text.extend_from_slice(number).sure(rt);
+        text.extend_from_slice(b"}").sure(rt);
+    }
+    text.extend_from_slice(b"]}}]}").sure(rt);
+    text
+}
+
+#[test]
+fn weighs_each_counter(rt: HostRuntime) {
+    for (counters, heat) in COUNTED {
+        let text = counters_of(&rt, rt.alloc(), counters);
+        let found = read_loads(rt.alloc(), &text).sure(&rt);
+        same_rows(&rt, &found, &[(b"/a".as_slice(), *heat)], "counters");
+    }
 }
 
 /// Names of fragments, as JSON, and their inode numbers.

@@ -4,9 +4,13 @@
 #[cfg(test)]
 mod distributed;
 #[cfg(test)]
+mod doubts;
+#[cfg(test)]
 mod dumps;
 #[cfg(test)]
 mod given;
+#[cfg(test)]
+mod inodes;
 #[cfg(test)]
 mod packing;
 #[cfg(test)]

@@ -45,6 +45,7 @@ impl From<SnapshotError> for Refused {
         match error {
             SnapshotError::Memory => Refused::Memory,
             SnapshotError::TooMany
+            | SnapshotError::Elsewhere
             | SnapshotError::TwoClaims { .. }
             | SnapshotError::Unclaimed { .. } => Refused::Wrong,
         }

@@ -3,9 +3,9 @@
 use crate::dumps::Written;
 use crate::given::rank;
 use crate::same::{Row, Sure, same, same_rows};
-use ceph_dumps::{FragmentHeat, OwnPin, SubtreeRoot, read_listing};
+use ceph_dumps::{FragmentHeat, OwnPin, SubtreeRoot, read_listing, read_subtrees};
 use ceph_folding::fold;
-use ceph_snapshot::{Directory, Gathering, Held, Snapshot, held_heat, holds};
+use ceph_snapshot::{Directory, Gathering, Held, Snapshot, SnapshotError, held_heat, holds};
 use mds_types::{Rank, RankSet};
 use std::alloc::Global;
 use std::process::Abort;
@@ -255,4 +255,64 @@ fn without_a_walk_the_whole_top_is_held(rt: HostRuntime) {
     add_loads(&rt, rt.alloc(), &mut all, rank(0), &[(b"/m", (3, 1))]);
     let snapshot = all.snapshot(&[], 1, RankSet::from_bits(1)).sure(&rt);
     same_rows(&rt, &snapshot.directories, TOPS, "tops");
+}
+
+/// What ranks 0 and 1 say of roots, and why there is no snapshot: nothing where there is one.
+const CLAIMS: &[(&[u8], &[u8], &str)] = &[
+    (
+        b"[{\"is_auth\":true,\"auth_first\":0,\"dir\":{\"path\":\"/h\xff\",\"dirfrag\":\"0x10000000000\"}}]",
+        b"[{\"is_auth\":true,\"auth_first\":1,\"dir\":{\"path\":\"/h\xff\",\"dirfrag\":\"0x10000000000\"}}]",
+        "ranks 0 and 1 both claim /h\\377: collect again",
+    ),
+    (
+        b"[{\"is_auth\":true,\"auth_first\":0,\"dir\":{\"path\":\"/h\",\"dirfrag\":\"0x10000000000.0*\"}}]",
+        b"[{\"is_auth\":true,\"auth_first\":1,\"dir\":{\"path\":\"/h\",\"dirfrag\":\"0x10000000000.1*\"}}]",
+        "",
+    ),
+    (
+        b"[{\"is_auth\":false,\"auth_first\":1,\"dir\":{\"path\":\"/h\"}}]",
+        b"[{\"is_auth\":false,\"auth_first\":2,\"dir\":{\"path\":\"/i\"}},\
+{\"is_auth\":true,\"auth_first\":1,\"dir\":{\"path\":\"/h\"}}]",
+        "rank 1 says that rank 2 has /i, which rank 2 does not claim: collect again",
+    ),
+    (
+        b"[{\"is_auth\":false,\"auth_first\":1,\"dir\":{\"path\":\"/h\"}}]",
+        b"[{\"is_auth\":false,\"auth_first\":0,\"dir\":{\"path\":\"/i\"}}]",
+        "rank 0 says that rank 1 has /h, which rank 1 does not claim: collect again",
+    ),
+    (
+        b"[{\"is_auth\":false,\"auth_first\":1,\"dir\":{\"path\":\"/h\"}}]",
+        b"[{\"is_auth\":true,\"auth_first\":1,\"dir\":{\"path\":\"/h\"}}]",
+        "",
+    ),
+];
+
+/// The snapshot of what ranks 0 and 1 say of roots.
+fn snapshot_of(
+    alloc: Global,
+    first: &[SubtreeRoot],
+    second: &[SubtreeRoot],
+) -> Result<Snapshot, SnapshotError> {
+    let mut all = Gathering::new(alloc)?;
+    all.add_subtrees(rank(0), first)?;
+    all.add_subtrees(rank(1), second)?;
+    all.snapshot(&[], 1, RankSet::from_bits(7))
+}
+
+/// Why there is no snapshot, as it is printed; nothing where there is one.
+fn refusal_of(rt: &impl Abort, alloc: Global, first: &[u8], second: &[u8]) -> String {
+    let first = read_subtrees(alloc, first).sure(rt);
+    let second = read_subtrees(alloc, second).sure(rt);
+    match snapshot_of(alloc, &first, &second) {
+        Ok(_) => String::new(alloc),
+        Err(refused) => refused.to_string(alloc).sure(rt),
+    }
+}
+
+#[test]
+fn contradictions_of_authority_are_refused(rt: HostRuntime) {
+    for (first, second, why) in CLAIMS {
+        let told = refusal_of(&rt, rt.alloc(), first, second);
+        same(&rt, &told.as_str(), why);
+    }
 }

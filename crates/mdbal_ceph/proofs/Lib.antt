@@ -1,3 +1,4 @@
+pub mod Kept
 pub mod Ours
 pub mod OwnLines
 pub mod Parents

@@ -16,7 +16,7 @@ owner_of own ranks d (Some at) is =
     let path : at.0 ≡ d.path.items = sym (ap (λ (w : WhosePin). w.0) whose) in
     let is_so : whose_pin d ≡ with_owner own ranks (d.path.items, at.1) = whose ∙ ap (λ (p : List ℕ). with_owner own ranks (p, at.1)) path in
     record {
-      pinned = at.1;
+      pinned = at.1.0;
       ours = ap (λ (w : WhosePin). w.1.1.1) is_so;
       others = ap (λ (w : WhosePin). w.1.0) is_so;
       idle = ap (λ (w : WhosePin). w.1.1.0) is_so;

@@ -23,9 +23,9 @@ value_rule name defaults = record (new_rule name) { long = Some name; value_name
 
 abbrev pub option_rules : List Rule
 option_rules =
-    value_rule (codes "parts") (codes "auto" ∷ []) ∷ value_rule (codes "most-pins") (codes "1000" ∷ [])
+    value_rule (codes "parts") (codes "auto" ∷ []) ∷ value_rule (codes "most-pins") (codes "10000" ∷ [])
     ∷ value_rule (codes "mask") [] ∷ value_rule (codes "own") [] ∷ value_rule (codes "check") []
-    ∷ value_rule (codes "least-gain") (codes "5" ∷ []) ∷ value_rule (codes "least-heat") (codes "0" ∷ [])
+    ∷ value_rule (codes "least-gain") (codes "5" ∷ []) ∷ value_rule (codes "least-heat") []
     ∷ value_rule (codes "least-by-inodes") (codes "0" ∷ []) ∷ value_rule (codes "keep") (codes "5" ∷ [])
     ∷ value_rule (codes "mount") (codes "/mnt/cephfs" ∷ []) ∷ value_rule (codes "pins") []
     ∷ flag_rule (codes "subvolumes") ∷ value_rule (codes "svg") [] ∷ value_rule (codes "script") []

@@ -11,7 +11,6 @@ use Rattle.clap.specs.Words.{Row, first_of, one_of}
 use Rattle.ceph_dumps.specs.declared.own_list.OwnPin.{OwnPin}
 use Rattle.ceph_plan.specs.declared.choice.PartCount.{PartCount}
 use Rattle.ceph_plan.specs.declared.choice.Wanted.{Wanted}
-use Rattle.ceph_plan.specs.declared.worth.LeastGain.{LeastGain}
 use Rattle.ceph_plan.specs.declared.choice.PartCount.TheVariants.{AtMost, Auto}
 use Rattle.ceph_report.specs.Check.{all_hold, check_text}
 use Rattle.ceph_report.specs.declared.check.PinCheck.{PinCheck}
@@ -19,6 +18,7 @@ use Rattle.ceph_snapshot.specs.declared.directory.Directory.{Directory}
 use Rattle.ceph_snapshot.specs.Snapshots.{IsSnapshot}
 use Rattle.mdbal_ceph.specs.declared.collected.Collected.{Collected}
 use Rattle.mdbal_ceph.specs.declared.outcome.Outcome.{Outcome}
+use Rattle.mdbal_ceph.specs.declared.settings.Least.{Least}
 use Rattle.mdbal_ceph.specs.declared.settings.PlanSettings.{PlanSettings}
 use Rattle.mdbal_ceph.specs.declared.writing.PlanOutput.{PlanOutput}
 use Rattle.mdbal_ceph.specs.Collections.{HasOurPins, listed_pins}
@@ -44,11 +44,15 @@ abbrev pub mask_named : Option (List ℕ) → Option ℕ
 mask_named None = None
 mask_named (Some text) = asked_mask text
 
+-- a heat in thousandths, if one is named
+abbrev pub heat_named : Option (List ℕ) → Option ℕ
+heat_named text = option_map (λ digits. option_number digits * 1000) text
+
 -- what a plan has to come to, with heat in thousandths
-abbrev pub least_named : List Row → LeastGain
+abbrev pub least_named : List Row → Least
 least_named rows =
     record {
-      heat = option_number (value_or rows (codes "least-heat") (codes "0")) * 1000;
+      heat = heat_named (first_of (codes "least-heat") rows);
       percent = option_number (value_or rows (codes "least-gain") (codes "5"));
       each_thousand = option_number (value_or rows (codes "least-by-inodes") (codes "0")) * 1000;
     }
@@ -62,7 +66,7 @@ pub record IsFlag (rows : List Row) (option : List ℕ) (is_given : Bool) : Type
 pub record AreRead (rows : List Row) (settings : PlanSettings) : Type 0 where
   pub folder : settings.folder.now ≡ value_or rows (codes "folder") (codes ".")
   pub parts : settings.parts
-      ≡ parts_named (value_or rows (codes "parts") (codes "auto")) (value_or rows (codes "most-pins") (codes "1000"))
+      ≡ parts_named (value_or rows (codes "parts") (codes "auto")) (value_or rows (codes "most-pins") (codes "10000"))
   pub keep : settings.keep ≡ option_number (value_or rows (codes "keep") (codes "5"))
   pub least : settings.least ≡ least_named rows
   pub mask : settings.mask ≡ mask_named (first_of (codes "mask") rows)
@@ -90,8 +94,12 @@ pub record IsPlanWritten (settings : PlanSettings) (output : PlanOutput) : Type 
   pub snapshot : IsSnapshot collected.snapshot
   pub ours : HasOurPins collected
   pub ranks : AreUsable settings.mask (option_map string_bytes collected.cluster.mask) collected.cluster outcome.ranks
-  pub of : IsOutcome collected.snapshot.directories.items collected.snapshot.spread.items
+  pub of : IsOutcome collected.snapshot.directories.items collected.snapshot.spread.items settings.subvolumes
       (wanted_by settings collected.balances) outcome
+  pub there : outcome.there ≡ collected.cluster.ranks
+  pub active : outcome.active ≡ collected.cluster.active
+  pub size : outcome.size ≡ collected.cluster.size
+  pub samples : outcome.samples ≡ collected.samples
   pub balances : outcome.balances ≡ collected.balances
   pub file_system : outcome.file_system ≡ collected.file_system
   pub written : IsWritten settings outcome output

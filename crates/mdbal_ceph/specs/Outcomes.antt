@@ -1,5 +1,6 @@
 -- What the report's numbers are of.
-use Rattle.std.specs.Prelude.{◌≡◌, ◌≢◌, ◌<◌, ◌≤◌, ◌+◌, ◌^◌, ℕ, All, List, Option, length, min, slice_index, true}
+use Rattle.std.specs.Prelude.{◌≡◌, ◌≢◌, ◌<◌, ◌≤◌, ◌+◌, ◌^◌, ℕ, All, Bool, List, Option, false, length, min}
+use Rattle.std.specs.Prelude.{slice_index, true}
 use Rattle.mds_types.specs.declared.limits.TheConstants.{DIR_LIMIT}
 use Rattle.mds_types.specs.declared.problem.ProblemRow.{ProblemRow}
 use Rattle.mds_types.specs.Sums.{sum_below}
@@ -7,19 +8,20 @@ use Rattle.ceph_distributed.specs.declared.spread.Advice.{Advice}
 use Rattle.ceph_distributed.specs.Spreads.{IsAdvised}
 use Rattle.ceph_snapshot.specs.declared.directory.Directory.{Directory}
 use Rattle.ceph_snapshot.specs.declared.held.Held.{Held}
-use Rattle.ceph_folding.specs.Folding.{IsFolded}
+use Rattle.ceph_folding.specs.Folding.{AreUnitsLeft, IsFolded}
 use Rattle.ceph_snapshot.specs.Holding.{IsHeld, held_at, held_below, is_holding, most_heat}
-use Rattle.ceph_snapshot.specs.Policies.{StillKeepUnpinnable}
+use Rattle.ceph_snapshot.specs.Policies.{StillKeepUnpinnable, dir_path_at}
 use Rattle.ceph_snapshot.specs.Rows.{AreRowsOf, free_heat}
 use Rattle.ceph_plan.specs.Packing.{IsAsGreat, IsBoundOf}
 use Rattle.ceph_plan.specs.declared.choice.Wanted.{Wanted}
 use Rattle.ceph_plan.specs.declared.proposal.OwnPins.{OwnPins}
 use Rattle.ceph_plan.specs.declared.proposal.Proposal.{Proposal}
 use Rattle.ceph_plan.specs.Proposals.{IsProposal}
-use Rattle.ceph_report.specs.Amounts.{AreAmounts, goal_at, heat_now, inodes_from, inodes_to}
+use Rattle.ceph_report.specs.Amounts.{AreAmounts, cold_inodes, goal_at, heat_going, heat_now, inodes_from, inodes_to}
 use Rattle.ceph_report.specs.Told.{IsHottest}
 use Rattle.ceph_report.specs.declared.facts.HottestDirectory.{HottestDirectory}
 use Rattle.ceph_pins.specs.OwnPins.{AreOwnPins}
+use Rattle.ceph_pins.specs.Volumes.{is_unit}
 use Rattle.mdbal_ceph.specs.declared.outcome.Decision.{Decision}
 use Rattle.mdbal_ceph.specs.declared.outcome.Outcome.{Outcome}
 
@@ -58,6 +60,10 @@ pub record IsDecision (directories : List Directory) (spread : List ℕ) (ranks 
       (λ r. inodes_to directories decision.holds.items decision.goals.items r (length directories))
   pub out : AreAmounts decision.sums.out.items
       (λ r. inodes_from directories decision.holds.items decision.goals.items r (length directories))
+  pub cold : decision.sums.cold
+      ≡ min most_heat (cold_inodes directories decision.holds.items decision.goals.items (length directories))
+  pub heat : decision.sums.heat
+      ≡ min most_heat (heat_going directories decision.holds.items decision.goals.items (length directories))
 
 -- the heat of each directory that nothing holds, and none of one that is held, before any directory is folded
 pub record AreFreeHeats (collected : List Directory) (heats : List ℕ) : Type 0 where
@@ -88,15 +94,23 @@ pub record IsBoundOfAll (collected : List Directory) (pinned : List ℕ) (ranks 
   pub great : sum_below (length heats) (slice_index heats) ≤ 2 ^ 62
       → IsAsGreat ranks pinned (length heats) (slice_index heats) bound
 
+-- the directories that are planned one by one: all that were collected, or, where subvolumes are pinned by Ceph's own
+-- commands, these and their groups, with all that is below them or beside them in the nearest above it
+abbrev pub AreUnits : Bool → List Directory → List Directory → Type 0
+AreUnits false collected units = units ≡ collected
+AreUnits true collected units = AreUnitsLeft collected units (λ i. is_unit (dir_path_at collected i))
+
 -- what was collected of directories, with this heat by rank of what is spread, and what came of it: as many
--- directories as the planner takes, all that were collected where they are no more than that, with all their heat and
--- inodes, each that may not be pinned among them, what is decided for these, and the hottest, the advice and the bound
--- of all that were collected
-pub record IsOutcome
-    (collected : List Directory) (spread : List ℕ) (wanted : Wanted) (outcome : Outcome) : Type 0 where
-  pub few : length outcome.directories.items ≡ min (length collected) DIR_LIMIT
-  pub same : length collected ≤ DIR_LIMIT → outcome.directories.items ≡ collected
-  pub folded : IsFolded collected outcome.directories.items
+-- directories as the planner takes, all that are planned one by one where they are no more than that, with all their
+-- heat and inodes, each that may not be pinned among them, what is decided for these, and the hottest, the advice and
+-- the bound of all that were collected
+pub record IsOutcome (collected : List Directory) (spread : List ℕ) (subvolumes : Bool) (wanted : Wanted)
+    (outcome : Outcome) : Type 0 where
+  pub units : List Directory
+  pub each : AreUnits subvolumes collected units
+  pub few : length outcome.directories.items ≡ min (length units) DIR_LIMIT
+  pub same : length units ≤ DIR_LIMIT → outcome.directories.items ≡ units
+  pub folded : IsFolded units outcome.directories.items
   pub count : length outcome.directories.items + outcome.folded ≡ length collected
   pub unpinnable : StillKeepUnpinnable collected outcome.directories.items
   pub decided : IsDecision outcome.directories.items spread outcome.ranks wanted outcome.decision

@@ -1,10 +1,13 @@
 -- What is written of a plan.
-use Rattle.std.specs.Prelude.{◌≡◌, ◌↔◌, ℕ, Bool, List, [], length, string_bytes}
+use Rattle.std.specs.Prelude.{◌≡◌, ◌↔◌, ◌*◌, ℕ, Bool, List, [], length, nat_lt, string_bytes}
 use Rattle.std.specs.Prelude.{IfSome, IsTrue, is_some, option_copied, if◌then◌else◌}
+use Rattle.std.specs.Option.{unwrap_or}
+use Rattle.mds_types.specs.RankSet.{rank_count}
 use Rattle.mds_types.specs.Sums.{count_below}
 use Rattle.ceph_plan.specs.declared.row.PinChange.{PinChange}
 use Rattle.ceph_plan.specs.Worth.{IsWorthMoving}
 use Rattle.ceph_plan.specs.declared.worth.Gain.{Gain}
+use Rattle.ceph_plan.specs.declared.worth.LeastGain.{LeastGain}
 use Rattle.ceph_pins.specs.Back.{inverted}
 use Rattle.ceph_pins.specs.OwnList.{own_list}
 use Rattle.ceph_pins.specs.PinsScript.{pins_script}
@@ -17,7 +20,9 @@ use Rattle.ceph_report.specs.Staying.{AreStays}
 use Rattle.ceph_report.specs.Told.{hottest}
 use Rattle.ceph_report.specs.declared.facts.Facts.{Facts}
 use Rattle.mdbal_ceph.specs.declared.outcome.Outcome.{Outcome}
+use Rattle.mdbal_ceph.specs.declared.settings.Least.{Least}
 use Rattle.mdbal_ceph.specs.declared.settings.PlanSettings.{PlanSettings}
+use Rattle.mdbal_ceph.specs.declared.writing.TheConstants.{IDLE_HEAT}
 use Rattle.mdbal_ceph.specs.declared.writing.PinFiles.{PinFiles}
 use Rattle.mdbal_ceph.specs.declared.writing.PlanOutput.{PlanOutput}
 
@@ -30,6 +35,19 @@ gain_of outcome =
       planned = hottest outcome.decision.proposal.plan.packing.load.items;
       moved = outcome.decision.proposal.plan.moved;
     }
+
+-- what a plan for these ranks has to come to. Where no heat is asked for, it is that of an idle rank for each of them
+abbrev pub least_for : Least → ℕ → LeastGain
+least_for least ranks =
+    record {
+      heat = unwrap_or least.heat (IDLE_HEAT * rank_count ranks);
+      percent = least.percent;
+      each_thousand = least.each_thousand;
+    }
+
+-- there is less heat than that
+abbrev pub is_idle : Least → Outcome → Bool
+is_idle least outcome = nat_lt (gain_of outcome).heat (least_for least outcome.ranks).heat
 
 -- the status of the program
 abbrev pub plan_status : Bool → ℕ
@@ -53,7 +71,7 @@ pub record ArePinFiles
   pub own : files.own.items ≡ own_list outcome.directories.items outcome.decision.proposal.rows.items changes
 
 -- the facts of the report are those of the outcome
-pub record AreFacts (outcome : Outcome) (count : ℕ) (facts : Facts) : Type 0 where
+pub record AreFacts (outcome : Outcome) (is_idle : Bool) (count : ℕ) (facts : Facts) : Type 0 where
   pub directories : facts.directories.now ≡ outcome.directories.items
   pub holds : facts.holds.now ≡ outcome.decision.holds.items
   pub folded : facts.folded ≡ outcome.folded
@@ -70,7 +88,10 @@ pub record AreFacts (outcome : Outcome) (count : ℕ) (facts : Facts) : Type 0 w
   pub sums : facts.sums.now ≡ outcome.decision.sums
   pub pinned : facts.pinned.now ≡ outcome.decision.pinned.items
   pub changes : facts.changes ≡ length outcome.decision.proposal.changes.items
+  pub rows : facts.rows.now ≡ outcome.decision.proposal.rows.items
+  pub goals : facts.goals.now ≡ outcome.decision.goals.items
   pub standing : facts.standing ≡ count
+  pub idle : facts.is_idle ≡ is_idle
 
 -- how many pins of an earlier plan stay as they are
 abbrev pub standing_count : Outcome → ℕ
@@ -80,21 +101,23 @@ standing_count outcome =
 
 -- the text is the report of the outcome's facts, or the plan as JSON, with what each pin brings, the roots of subtrees,
 -- and what is left where it is
-pub record IsTold (outcome : Outcome) (is_json is_proposed : Bool) (text : List ℕ) : Type 0 where
+pub record IsTold (outcome : Outcome) (is_json is_proposed is_idle : Bool) (text : List ℕ) : Type 0 where
   pub facts : Facts
-  pub of : AreFacts outcome (standing_count outcome) facts
+  pub of : AreFacts outcome is_idle (standing_count outcome) facts
   pub moves : AreMoves outcome.directories.items outcome.decision.holds.items outcome.decision.proposal.rows.items
       outcome.decision.proposal.changes.items facts.moves.now
   pub roots : AreRoots outcome.directories.items outcome.decision.proposal.rows.items
       outcome.decision.proposal.changes.items outcome.decision.goals.items facts.roots.now
   pub stays : AreStays outcome.directories.items facts.stays.now
   pub told : text
-      ≡ (if is_json then json facts (proposed_changes outcome is_proposed) is_proposed else report facts is_proposed)
+      ≡ (if is_json then json facts (proposed_changes outcome is_proposed)
+      (inverted outcome.decision.proposal.rows.items (proposed_changes outcome is_proposed)) is_proposed
+      else report facts is_proposed)
 
 -- the plan is proposed exactly where it comes to what is asked for; the report, or JSON, is that of the outcome; and
 -- the files of the pins are there where they are asked for, with the changes that are proposed
 pub record IsWritten (settings : PlanSettings) (outcome : Outcome) (output : PlanOutput) : Type 0 where
-  pub proposed : IsTrue output.is_proposed ↔ IsWorthMoving (gain_of outcome) settings.least
-  pub text : IsTold outcome settings.is_json output.is_proposed output.text.items
+  pub proposed : IsTrue output.is_proposed ↔ IsWorthMoving (gain_of outcome) (least_for settings.least outcome.ranks)
+  pub text : IsTold outcome settings.is_json output.is_proposed (is_idle settings.least outcome) output.text.items
   pub asked : is_some output.pins ≡ is_some settings.pins
   pub pins : IfSome output.pins (ArePinFiles settings outcome (proposed_changes outcome output.is_proposed))

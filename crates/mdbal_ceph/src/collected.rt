@@ -10,9 +10,9 @@ use crate::progress::Progress;
 use anyhow::{Context, Error, bail};
 use ceph_dumps::{
     DumpError, FileSystem, FileSystemRanks, OwnPin, read_balancer, read_cluster, read_complete,
-    read_listing, read_loads, read_own_list, read_subtrees,
+    read_inodes, read_listing, read_loads, read_own_list, read_subtrees,
 };
-use ceph_snapshot::{Gathering, Snapshot};
+use ceph_snapshot::{Gathering, Mounted, Snapshot};
 use mds_types::limits::RANK_LIMIT;
 use mds_types::{Rank, RankSet};
 use std::alloc::Global;
@@ -71,15 +71,50 @@ where
     }
 }
 
+/// Where dumps are read, and how they are named over a mount, where inode numbers were listed.
+#[derive(Drop)]
+struct Source<'a> {
+    folder: &'a str,
+    mounted: Option<Mounted>,
+    /// How many samples of heat each rank gave.
+    samples: u64,
+}
+
+/// The inode numbers that were listed over a mount, where there is such a file.
+fn mounted<R: Files + AllocGlobal>(rt: &R, folder: &str) -> Result<Option<Mounted>, Error> {
+    let path = format!(in rt.alloc(); "{folder}/inodes")?;
+    match read_if_there(rt, path.as_str(), read_inodes)? {
+        Some(listing) => Ok(Some(Mounted::new(rt.alloc(), listing)?)),
+        None => Ok(None),
+    }
+}
+
+/// The source of this folder.
+fn source_of<'a, R: Files + AllocGlobal>(rt: &R, folder: &'a str) -> Result<Source<'a>, Error>
+    ensures { IfOk result (λ source. 0 < source.samples) }
+{
+    let mounted = mounted(rt, folder)?;
+    let samples = sample_count(rt, folder)?;
+    Ok(Source {
+        folder,
+        mounted,
+        samples,
+    })
+}
+
 /// Adds the roots that a rank has.
 fn add_subtrees<R: Files + AllocGlobal>(
     rt: &R,
     gathering: &mut Gathering,
-    folder: &str,
+    source: &Source<'_>,
     rank: Rank,
 ) -> Result<(), Error> {
+    let folder = source.folder;
     let path = format!(in rt.alloc(); "{folder}/subtrees.{}.json", rank.number())?;
-    let roots = read_file(rt, path.as_str(), read_subtrees)?;
+    let mut roots = read_file(rt, path.as_str(), read_subtrees)?;
+    if let Some(mounted) = &source.mounted {
+        mounted.name_roots(rt.alloc(), roots.as_mut_slice())?;
+    }
     let added = gathering.add_subtrees(rank, roots.as_slice());
     added.map_err(Error::from)
 }
@@ -89,13 +124,17 @@ fn add_loads<R: Files + AllocGlobal + Clock + Eprint>(
     rt: &R,
     progress: &mut Progress,
     gathering: &mut Gathering,
-    folder: &str,
+    source: &Source<'_>,
     rank: Rank,
     sample: u64,
 ) -> Result<(), Error> {
+    let folder = source.folder;
     let path = format!(in rt.alloc(); "{folder}/loads.{}.{sample}.json", rank.number())?;
     progress.tell(rt, path.as_str());
-    let loads = read_file(rt, path.as_str(), read_loads)?;
+    let mut loads = read_file(rt, path.as_str(), read_loads)?;
+    if let Some(mounted) = &source.mounted {
+        mounted.name_fragments(rt.alloc(), loads.as_mut_slice())?;
+    }
     let added = gathering.add_loads(rank, loads.as_slice());
     added.map_err(Error::from)
 }
@@ -105,23 +144,26 @@ fn add_rank<R: Files + AllocGlobal + Clock + Eprint>(
     rt: &R,
     progress: &mut Progress,
     gathering: &mut Gathering,
-    folder: &str,
+    source: &Source<'_>,
     rank: Rank,
-    samples: u64,
 ) -> Result<(), Error> {
-    add_subtrees(rt, gathering, folder, rank)?;
-    for sample in 1..=samples {
-        add_loads(rt, progress, gathering, folder, rank, sample)?;
+    add_subtrees(rt, gathering, source, rank)?;
+    for sample in 1..=source.samples {
+        add_loads(rt, progress, gathering, source, rank, sample)?;
     }
     Ok(())
 }
 
-/// Adds what was listed over a mount, where there is such a file.
+/// Adds what was listed over a mount, where there are such files.
 fn add_listing<R: Files + AllocGlobal>(
     rt: &R,
     gathering: &mut Gathering,
-    folder: &str,
+    source: &Source<'_>,
 ) -> Result<(), Error> {
+    if let Some(mounted) = &source.mounted {
+        gathering.add_numbers(mounted.listing())?;
+    }
+    let folder = source.folder;
     let path = format!(in rt.alloc(); "{folder}/dirs")?;
     match read_if_there(rt, path.as_str(), read_listing)? {
         Some(listing) => {
@@ -172,14 +214,13 @@ fn add_ranks<R: Files + AllocGlobal + Clock + Eprint>(
     rt: &R,
     progress: &mut Progress,
     gathering: &mut Gathering,
-    folder: &str,
+    source: &Source<'_>,
     ranks: RankSet,
-    samples: u64,
 ) -> Result<(), Error> {
     for number in 0..RANK_LIMIT {
         match Rank::new(number) {
             Some(rank) if ranks.has(rank) => {
-                add_rank(rt, progress, gathering, folder, rank, samples)?;
+                add_rank(rt, progress, gathering, source, rank)?;
             }
             _ => (),
         }
@@ -214,12 +255,11 @@ pub fn listed(own: &Option<Vec<OwnPin>>) -> &[OwnPin]
 fn read_dumps<R: Files + AllocGlobal + Clock + Eprint>(
     rt: &R,
     progress: &mut Progress,
-    folder: &str,
+    source: &Source<'_>,
     ranks: RankSet,
-    samples: u64,
 ) -> Result<Gathering, Error> {
     let mut gathering = Gathering::new(rt.alloc())?;
-    add_ranks(rt, progress, &mut gathering, folder, ranks, samples)?;
+    add_ranks(rt, progress, &mut gathering, source, ranks)?;
     Ok(gathering)
 }
 
@@ -233,9 +273,9 @@ pub fn read_named<R: Files + AllocGlobal + Clock + Eprint>(
 {
     let mut progress = Progress::begin(rt);
     let ranks = cluster_of(rt, folder)?.ranks;
-    let samples = sample_count(rt, folder)?;
-    let gathering = read_dumps(rt, &mut progress, folder, ranks, samples)?;
-    let snapshot = gathering.snapshot(&[], samples, ranks)?;
+    let source = source_of(rt, folder)?;
+    let gathering = read_dumps(rt, &mut progress, &source, ranks)?;
+    let snapshot = gathering.snapshot(&[], source.samples, ranks)?;
     let own = own_pins(rt, own)?;
     let text = paths0(rt.alloc(), &snapshot.directories, listed(&own))?;
     Ok(text)
@@ -255,17 +295,17 @@ pub fn read_collected<R: Files + AllocGlobal + Clock + Eprint>(
     let file_system = file_system_of(rt, folder)?;
     let cluster = cluster_of(rt, folder)?;
     let balances = balances(rt, folder)?;
-    let samples = sample_count(rt, folder)?;
+    let source = source_of(rt, folder)?;
     let ranks = cluster.ranks;
-    let mut gathering = read_dumps(rt, progress, folder, ranks, samples)?;
-    add_listing(rt, &mut gathering, folder)?;
+    let mut gathering = read_dumps(rt, progress, &source, ranks)?;
+    add_listing(rt, &mut gathering, &source)?;
     let own = own_pins(rt, own)?;
-    let snapshot = gathering.snapshot(listed(&own), samples, ranks)?;
+    let snapshot = gathering.snapshot(listed(&own), source.samples, ranks)?;
     Ok(Collected {
         file_system,
         cluster,
         balances,
-        samples,
+        samples: source.samples,
         own,
         snapshot,
     })

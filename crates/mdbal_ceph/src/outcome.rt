@@ -1,12 +1,11 @@
 //! Plans what was collected.
 ghost use Rattle.std.specs.Prelude.{◌≡◌, ◌≤◌, ◌+◌, IfOk, IsOkAnd, length, min, string_bytes};
 ghost use Rattle.std.specs.Option.{option_map};
-ghost use Rattle.ceph_folding.specs.Folding.{IsFolded};
+ghost use Rattle.ceph_folding.specs.Folding.{IsFolded, StillKept};
 ghost use Rattle.ceph_snapshot.specs.Holding.{AreParentsFirst};
-ghost use Rattle.ceph_snapshot.specs.Policies.{KeepUnpinnable, StillKeepUnpinnable};
 ghost use Rattle.ceph_snapshot.specs.Snapshots.{IsSnapshot};
 ghost use Rattle.mdbal_ceph.specs.Options.{wanted_by};
-ghost use Rattle.mdbal_ceph.specs.Outcomes.{AreFreeHeats, IsDecision, IsOutcome};
+ghost use Rattle.mdbal_ceph.specs.Outcomes.{AreFreeHeats, AreUnits, IsDecision, IsOutcome};
 ghost use Rattle.mdbal_ceph.specs.Usable.{AreUsable};
 
 use crate::collected::Collected;
@@ -15,8 +14,8 @@ use crate::settings::PlanSettings;
 use anyhow::{Error, bail};
 use ceph_distributed::{Advice, advised};
 use ceph_dumps::{FileSystem, FileSystemRanks};
-use ceph_folding::fold;
-use ceph_pins::own_pins;
+use ceph_folding::{fold, fold_to_units};
+use ceph_pins::{own_pins, unit_marks};
 use ceph_plan::{Proposal, Wanted, heats_bound, propose};
 use ceph_report::{HottestDirectory, Sums, goals_of, hottest_of, sums_of};
 use ceph_snapshot::{Directory, Held, SnapshotError, free_heats, held_heat, holds, rows_of};
@@ -125,6 +124,24 @@ fn decided(
     })
 }
 
+/// The directories that are planned one by one, and how many others were folded into them. Where subvolumes are pinned
+/// by Ceph's own commands, these are the subvolumes and their groups.
+fn units(
+    alloc: Global,
+    subvolumes: bool,
+    directories: Vec<Directory>,
+) -> Result<(Vec<Directory>, usize), SnapshotError>
+    ensures units { IfOk result (λ found. AreUnits subvolumes directories.items found.0.items) }
+    ensures kept { IfOk result (λ found. StillKept directories.items found.0.items) }
+    ensures count { IfOk result (λ found. length found.0.items + found.1 ≡ length directories.items) }
+{
+    if !subvolumes {
+        return Ok((directories, 0));
+    }
+    let marks = unit_marks(alloc, &directories)?;
+    fold_to_units(alloc, directories, &marks)
+}
+
 /// At most as many directories as the planner takes, with the coldest folded into those above them, and how many were
 /// folded.
 fn folded(
@@ -133,8 +150,7 @@ fn folded(
 ) -> Result<(Vec<Directory>, usize), SnapshotError>
     ensures few { IfOk result (λ found. length found.0.items ≡ min (length directories.items) DIR_LIMIT) }
     ensures folded { IfOk result (λ found. IsFolded directories.items found.0.items) }
-    ensures unpinnable { KeepUnpinnable directories.items
-        → IfOk result (λ found. StillKeepUnpinnable directories.items found.0.items) }
+    ensures kept { IfOk result (λ found. StillKept directories.items found.0.items) }
     ensures same { length directories.items ≤ DIR_LIMIT
         → IsOkAnd result (λ found. found.0.items ≡ directories.items) }
     ensures count { IfOk result (λ found. length found.0.items + found.1 ≡ length directories.items) }
@@ -159,7 +175,7 @@ pub fn planned(
 ) -> Result<Outcome, Error>
     requires { IsSnapshot collected.snapshot }
     ensures outcome { IfOk result (IsOutcome collected.snapshot.directories.items collected.snapshot.spread.items
-        (wanted_by settings.now collected.balances)) }
+        settings.now.subvolumes (wanted_by settings.now collected.balances)) }
     ensures ranks { IfOk result (λ outcome. AreUsable settings.now.mask
         (option_map string_bytes collected.cluster.mask) collected.cluster outcome.ranks) }
     ensures there { IfOk result (λ outcome. outcome.there ≡ collected.cluster.ranks) }
@@ -182,7 +198,9 @@ pub fn planned(
     let heats = collected_heats(alloc, &snapshot.directories)?;
     let hottest = hottest_of(alloc, &snapshot.directories, &heats)?;
     let advice = advised(alloc, &snapshot.directories, &heats, cluster.size)?;
-    let (directories, folded) = folded(alloc, snapshot.directories)?;
+    let (units, others) = units(alloc, settings.subvolumes, snapshot.directories)?;
+    let (directories, colder) = folded(alloc, units)?;
+    let folded = others + colder;
     let wanted = wanted_by(settings, balances);
     let decision = decided(alloc, wanted, ranks, &directories, &spread)?;
     let bound = heats_bound(&heats, &decision.pinned, ranks);

@@ -4,11 +4,11 @@ ghost use Rattle.std.specs.Option.{option_map};
 ghost use Rattle.clap.specs.Words.{app_of, first_of, found_of, rows_of, rule_of, with_rule};
 ghost use Rattle.mdbal_ceph.specs.CommandLine.{AreSettings, folder_rule, mdbal_ceph, option_rule};
 ghost use Rattle.mdbal_ceph.specs.CommandLine.{option_rules, plan_command, with_options};
-ghost use Rattle.mdbal_ceph.specs.Options.{AreRead, IsFlag, least_named, mask_named, option_number};
+ghost use Rattle.mdbal_ceph.specs.Options.{AreRead, IsFlag, heat_named, least_named, mask_named, option_number};
 ghost use Rattle.mdbal_ceph.specs.Options.{parts_named, value_or};
 
 use crate::input::mask_named;
-use ceph_plan::{LeastGain, PartCount};
+use ceph_plan::PartCount;
 use clap::error::ErrorKind;
 use clap::{Arg, ArgAction, ArgMatches, Command, Error};
 use mds_types::RankSet;
@@ -17,6 +17,17 @@ use std::convert::AsStr;
 
 /// The version that `--version` prints.
 const VERSION: &str = "0.1.0";
+
+/// What a plan has to come to for a proposal. Heat is in thousandths.
+#[derive(Clone, Copy)]
+pub struct Least {
+    /// The heat of the hottest rank. Where none is given, that of an idle rank for each rank that may have a part.
+    pub heat: Option<u64>,
+    /// By how many percent the hottest rank gets cooler.
+    pub percent: u8,
+    /// By how much heat it gets cooler for each thousand inodes that move.
+    pub each_thousand: u64,
+}
 
 /// What the program is asked to do.
 #[derive(Clone, Copy)]
@@ -33,8 +44,8 @@ pub struct PlanSettings<'a> {
     pub own: Option<&'a str>,
     /// The list of pins that are compared with the cluster's, and nothing is planned.
     pub check: Option<&'a str>,
-    /// What a plan has to come to for a proposal. Heat is in thousandths.
-    pub least: LeastGain,
+    /// What a plan has to come to for a proposal.
+    pub least: Least,
     /// Where the file system is mounted on the machine that sets the pins.
     pub mount: &'a str,
     /// Where the script that sets the pins goes.
@@ -116,9 +127,9 @@ const OPTIONS: &[PlanOption] = &[
     },
     PlanOption {
         name: "most-pins",
-        default: Some("1000"),
+        default: Some("10000"),
         value: Some("N"),
-        help: "The most connected parts that --parts auto tries, 1 to 65535: each may take a pin",
+        help: "The most pins of this program that --parts auto leaves in the file system, 1 to 65535",
     },
     PlanOption {
         name: "mask",
@@ -146,9 +157,9 @@ const OPTIONS: &[PlanOption] = &[
     },
     PlanOption {
         name: "least-heat",
-        default: Some("0"),
+        default: None,
         value: Some("HEAT"),
-        help: "Propose nothing if the hottest rank has less heat",
+        help: "Propose nothing if the hottest rank has less heat; 4 for each rank where left out: half a read a second",
     },
     PlanOption {
         name: "least-by-inodes",
@@ -328,13 +339,23 @@ fn heat_of(text: &str, refused: &'static str) -> Result<u64, Refused>
     }
 }
 
+/// The heat that a text names, in thousandths, if there is one.
+fn heat_if_any(text: Option<&str>, refused: &'static str) -> Result<Option<u64>, Refused>
+    ensures { IfOk result (λ heat. heat ≡ heat_named (option_map (λ text. text.now) text.entry)) }
+{
+    match text {
+        Some(text) => Ok(Some(heat_of(text, refused)?)),
+        None => Ok(None),
+    }
+}
+
 /// What a plan has to come to.
-fn least_of(matches: &ArgMatches<'_>) -> Result<LeastGain, Refused>
+fn least_of(matches: &ArgMatches<'_>) -> Result<Least, Refused>
     ensures { IfOk result (λ least. least ≡ least_named (rows_of (found_of matches.now))) }
 {
-    Ok(LeastGain {
-        heat: heat_of(
-            value_or(matches, "least-heat", "0"),
+    Ok(Least {
+        heat: heat_if_any(
+            value_of(matches, "least-heat"),
             "--least-heat takes a whole number",
         )?,
         percent: percent_of(value_or(matches, "least-gain", "5"))?,
@@ -399,7 +420,7 @@ fn found<'a>(matches: &ArgMatches<'a>) -> Result<PlanSettings<'a>, Refused>
     ensures { IfOk result (AreRead (rows_of (found_of matches.now))) }
 {
     let mask = mask_of(value_of(matches, "mask"))?;
-    let most = value_or(matches, "most-pins", "1000");
+    let most = value_or(matches, "most-pins", "10000");
     let parts = parts_of(value_or(matches, "parts", "auto"), most)?;
     let keep = percent_of(value_or(matches, "keep", "5"))?;
     Ok(PlanSettings {

@@ -3,20 +3,21 @@ ghost use Rattle.std.specs.Prelude.{◌≡◌, IfOk};
 ghost use Rattle.ceph_pins.specs.PinsScript.{pins_script};
 ghost use Rattle.ceph_report.specs.Staying.{AreStays};
 ghost use Rattle.mdbal_ceph.specs.Writing.{AreFacts, ArePinFiles, IsTold, IsWritten};
-ghost use Rattle.mdbal_ceph.specs.Writing.{gain_of, plan_status, proposed_changes};
+ghost use Rattle.mdbal_ceph.specs.Writing.{gain_of, least_for, plan_status, proposed_changes};
 
 use crate::outcome::Outcome;
-use crate::settings::PlanSettings;
+use crate::settings::{Least, PlanSettings};
 use anyhow::{Error, bail};
 use ceph_pins::{
     MountedFileSystem, ScriptError, changes_back, make_own_list, make_pins_script, standing_pins,
 };
-use ceph_plan::{Gain, PinChange, is_worth_it};
+use ceph_plan::{Gain, LeastGain, PinChange, is_worth_it};
 use ceph_report::{
     Facts, Move, Roots, Stay, hottest, make_json, make_picture, make_report, make_script, moves_of,
     roots_of, stays_of,
 };
 use ceph_snapshot::Directory;
+use mds_types::RankSet;
 use std::alloc::{AllocError, Global};
 
 /// The files of `--pins`.
@@ -68,6 +69,20 @@ fn gain_of(outcome: &Outcome) -> Gain
     }
 }
 
+/// The heat of an idle rank, in thousandths: that of half a read a second, as Ceph's heat has a half-life of 5 s.
+const IDLE_HEAT: u64 = 4000;
+
+/// What a plan for these ranks has to come to.
+fn least_for(least: Least, ranks: RankSet) -> LeastGain
+    ensures { result ≡ least_for least ranks }
+{
+    LeastGain {
+        heat: least.heat.unwrap_or(IDLE_HEAT * u64::from(ranks.len())),
+        percent: least.percent,
+        each_thousand: least.each_thousand,
+    }
+}
+
 /// What is reported of an outcome.
 fn facts_of<'a>(
     outcome: &'a Outcome,
@@ -75,8 +90,9 @@ fn facts_of<'a>(
     roots: &'a Roots,
     stays: &'a [Option<Stay>],
     standing: usize,
+    is_idle: bool,
 ) -> Facts<'a>
-    ensures facts { AreFacts outcome.now standing result }
+    ensures facts { AreFacts outcome.now is_idle standing result }
     ensures moves { result.moves.now ≡ moves.now }
     ensures roots { result.roots.now ≡ roots.entry.now }
     ensures stays { result.stays.now ≡ stays.now }
@@ -99,9 +115,12 @@ fn facts_of<'a>(
         advice: outcome.advice.as_ref(),
         roots,
         moves,
+        rows: &outcome.decision.proposal.rows,
+        goals: &outcome.decision.goals,
         stays,
         changes: outcome.decision.proposal.changes.len(),
         standing,
+        is_idle,
     }
 }
 
@@ -112,9 +131,10 @@ fn told(
     stays: &[Option<Stay>],
     is_json: bool,
     is_proposed: bool,
+    is_idle: bool,
 ) -> Result<Vec<u8>, AllocError>
     requires { AreStays outcome.now.directories.items stays.now }
-    ensures { IfOk result (λ text. IsTold outcome.now is_json is_proposed text.items) }
+    ensures { IfOk result (λ text. IsTold outcome.now is_json is_proposed is_idle text.items) }
 {
     let (directories, holds) = (&outcome.directories, &outcome.decision.holds);
     let proposal = &outcome.decision.proposal;
@@ -122,9 +142,11 @@ fn told(
     let standing = standing_pins(alloc, rows, changes)?;
     let moves = moves_of(alloc, directories, holds, rows, changes)?;
     let roots = roots_of(alloc, directories, rows, changes, &outcome.decision.goals)?;
-    let facts = facts_of(outcome, &moves, &roots, stays, standing);
+    let facts = facts_of(outcome, &moves, &roots, stays, standing, is_idle);
     if is_json {
-        make_json(alloc, &facts, changes_of(outcome, is_proposed), is_proposed)
+        let changes = changes_of(outcome, is_proposed);
+        let back = changes_back(alloc, rows, changes)?;
+        make_json(alloc, &facts, changes, &back, is_proposed)
     } else {
         make_report(alloc, &facts, is_proposed)
     }
@@ -195,10 +217,12 @@ pub fn written(
 ) -> Result<PlanOutput, Error>
     ensures { IfOk result (IsWritten settings.now outcome.now) }
 {
-    let is_proposed = is_worth_it(gain_of(outcome), settings.least);
+    let (gain, least) = (gain_of(outcome), least_for(settings.least, outcome.ranks));
+    let (is_proposed, is_idle) = (is_worth_it(gain, least), gain.heat < least.heat);
     let directories = outcome.directories.as_slice();
     let stays = stays_of(alloc, directories)?;
-    let text = told(alloc, outcome, &stays, settings.is_json, is_proposed)?;
+    let is_json = settings.is_json;
+    let text = told(alloc, outcome, &stays, is_json, is_proposed, is_idle)?;
     let pins = match settings.pins {
         Some(_) => Some(pin_files(alloc, settings, outcome, is_proposed)?),
         None => None,

@@ -8,7 +8,7 @@ use Rattle.ceph_plan.specs.declared.choice.Wanted.{Wanted}
 use Rattle.ceph_plan.specs.declared.proposal.OwnPins.{OwnPins}
 use Rattle.ceph_plan.specs.declared.proposal.Proposal.{Proposal}
 use Rattle.ceph_plan.specs.Proposals.{IsProposal}
-use Rattle.ceph_report.specs.Amounts.{AreAmounts, inodes_from, inodes_to}
+use Rattle.ceph_report.specs.Amounts.{AreAmounts, cold_inodes, heat_going, inodes_from, inodes_to}
 use Rattle.mdbal_ceph.proofs.Parents.{parents_first}
 use Rattle.mdbal_ceph.proofs.Untouched.{untouched}
 use Rattle.mdbal_ceph.proofs.outcome.decided.Goals as goal
@@ -55,4 +55,10 @@ returns c =
       out =
           subst (λ (others : List Held). AreAmounts c.in_ok-sums.sums.out.items (λ r. inodes_from directories others c.in_ok-goals.goals.items r n)) held_is
           (subst (λ (ranks : List ℕ). AreAmounts c.in_ok-sums.sums.out.items (λ r. inodes_from directories c.as_slice-held.result.now ranks r n)) c.deref-5.ensures.value c.in_ok-sums.ensures.out);
+      cold =
+          subst (λ (others : List Held). c.in_ok-sums.sums.cold ≡ min most_heat (cold_inodes directories others c.in_ok-goals.goals.items n)) held_is
+          (subst (λ (ranks : List ℕ). c.in_ok-sums.sums.cold ≡ min most_heat (cold_inodes directories c.as_slice-held.result.now ranks n)) c.deref-5.ensures.value c.in_ok-sums.ensures.cold);
+      heat =
+          subst (λ (others : List Held). c.in_ok-sums.sums.heat ≡ min most_heat (heat_going directories others c.in_ok-goals.goals.items n)) held_is
+          (subst (λ (ranks : List ℕ). c.in_ok-sums.sums.heat ≡ min most_heat (heat_going directories c.as_slice-held.result.now ranks n)) c.deref-5.ensures.value c.in_ok-sums.ensures.heat);
     }

@@ -1,10 +1,11 @@
-use Rattle.std.proofs.Common.{◌≡◌, ◌≤◌, ◌^◌, ℕ, List, length, slice_index, subst, sym}
+use Rattle.std.proofs.Common.{◌≡◌, ◌≤◌, ◌^◌, ℕ, List, arith, length, slice_index, subst, sym}
 use Rattle.mds_types.specs.Sums.{sum_below}
 use Rattle.ceph_snapshot.specs.declared.directory.Directory.{Directory}
 use Rattle.ceph_plan.specs.declared.choice.Wanted.{Wanted}
 use Rattle.ceph_plan.specs.Packing.{ArePlanRanks, IsAsGreat, IsBoundOf}
 use Rattle.mdbal_ceph.specs.Outcomes.{AreFreeHeats, IsBoundOfAll, IsDecision}
 use Rattle.mdbal_ceph.specs.declared.outcome.Decision.{Decision}
+use Rattle.mdbal_ceph.proofs.Kept.{kept_through}
 use Rattle.mdbal_ceph.proofs.outcome.planned.Goals as goal
 
 pub heats_bound-bound-requires : goal.heats_bound-bound-requires
@@ -33,11 +34,13 @@ returns-clause-outcome c =
     let heats : List ℕ = c.in_ok-heats.heats.items in
     let decision : Decision = c.in_ok-decision.decision in
     record {
+      units = c.in_ok-units.units.items;
+      each = c.in_ok-units.ensures.units;
       few = c.in_ok-directories.ensures.few;
       same = c.in_ok-directories.ensures.same;
       folded = c.in_ok-directories.ensures.folded;
-      count = c.in_ok-directories.ensures.count;
-      unpinnable = c.in_ok-directories.ensures.unpinnable c.requires.kept;
+      count = omega (arith, c.in_ok-directories.ensures.count, c.in_ok-units.ensures.count);
+      unpinnable = kept_through collected c.in_ok-units.units.items directories c.requires.kept c.in_ok-units.ensures.kept c.in_ok-directories.ensures.kept;
       decided =
           subst (λ (wanted : Wanted). IsDecision directories spread c.in_ok-ranks.ranks wanted decision) c.wanted_by-wanted.ensures
           (subst (λ (heats : List ℕ). IsDecision directories heats c.in_ok-ranks.ranks c.wanted_by-wanted.result decision) c.deref-7.ensures.value
