@@ -26,4 +26,4 @@ returns-clause-units c =
     let same = rw (c.deref.ensures.value) at c.in_ok-marks.ensures.units in
     let left = rw (c.deref-2.ensures.value) at c.fold_to_units.ensures.units in
     rw (c.if-not-subvolumes.false) (IfOk-weaker c.fold_to_units.result _ _
-        (λ found. left_by c.args.directories.items found.0.items c.in_ok-marks.marks.items same) left)
+    (λ found. left_by c.args.directories.items found.0.items c.in_ok-marks.marks.items same) left)
