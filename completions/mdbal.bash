@@ -1,31 +1,31 @@
 # Completions of mdbal, mdbal_ceph and mdbal_check for bash: source this file, or put it into the folder of bash-completion.
+_mdbal_words() { mapfile -t COMPREPLY < <(compgen -W "$1" -- "${COMP_WORDS[COMP_CWORD]}"); }
+# Names may have blanks; a folder goes on with a slash.
+_mdbal_files() { compopt -o filenames; mapfile -t COMPREPLY < <(compgen "$1" -- "${COMP_WORDS[COMP_CWORD]}"); }
 _mdbal() {
-    local cur=${COMP_WORDS[COMP_CWORD]} prev=${COMP_WORDS[COMP_CWORD-1]}
-    case $prev in
+    case ${COMP_WORDS[COMP_CWORD-1]} in
         --limit) return ;;
-        --proofs) COMPREPLY=($(compgen -f -- "$cur")); return ;;
+        --proofs) _mdbal_files -f; return ;;
     esac
-    COMPREPLY=($(compgen -W '--limit --strict --proofs --quiet --help --version' -- "$cur"))
+    _mdbal_words '--limit --strict --proofs --quiet --help --version'
 }
 _mdbal_ceph() {
-    local cur=${COMP_WORDS[COMP_CWORD]} prev=${COMP_WORDS[COMP_CWORD-1]}
-    case $prev in
-        --parts) COMPREPLY=($(compgen -W 'auto' -- "$cur")); return ;;
-        --own|--check|--pins|--svg|--script) COMPREPLY=($(compgen -f -- "$cur")); return ;;
-        --mount) COMPREPLY=($(compgen -d -- "$cur")); return ;;
-        --mask) COMPREPLY=($(compgen -W 'all' -- "$cur")); return ;;
-        --most-pins|--least-gain|--least-heat|--least-by-inodes|--keep) return ;;
+    case ${COMP_WORDS[COMP_CWORD-1]} in
+        --parts) _mdbal_words 'auto'; return ;;
+        --own|--check|--leave|--pins|--svg|--script) _mdbal_files -f; return ;;
+        --mount) _mdbal_files -d; return ;;
+        --mask) _mdbal_words 'all'; return ;;
+        --most-pins|--least-gain|--least-heat|--least-by-inodes|--keep|--most-inodes) return ;;
     esac
-    case $cur in
-        -*) COMPREPLY=($(compgen -W '--parts --most-pins --mask --own --check --least-gain --least-heat --least-by-inodes --keep --mount --pins --subvolumes --svg --script --json --paths0 --help --version' -- "$cur")) ;;
-        *) COMPREPLY=($(compgen -d -- "$cur")) ;;
+    case ${COMP_WORDS[COMP_CWORD]} in
+        -*) _mdbal_words '--parts --most-pins --mask --own --check --least-gain --least-heat --least-by-inodes --keep --most-inodes --leave --mount --pins --subvolumes --svg --script --json --paths0 --help --version' ;;
+        *) _mdbal_files -d ;;
     esac
 }
 _mdbal_check() {
-    local cur=${COMP_WORDS[COMP_CWORD]}
-    case $cur in
-        -*) COMPREPLY=($(compgen -W '--help --version' -- "$cur")) ;;
-        *) COMPREPLY=($(compgen -f -- "$cur")) ;;
+    case ${COMP_WORDS[COMP_CWORD]} in
+        -*) _mdbal_words '--help --version' ;;
+        *) _mdbal_files -f ;;
     esac
 }
 complete -F _mdbal mdbal

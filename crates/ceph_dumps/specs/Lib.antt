@@ -6,5 +6,6 @@ pub mod Inodes
 pub mod Listing
 pub mod OneForOne
 pub mod OwnList
+pub mod PathList
 pub mod Paths
 pub mod Told

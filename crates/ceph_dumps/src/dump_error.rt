@@ -52,6 +52,9 @@ pub enum DumpError {
     /// This line of a list of pins is no rank and path.
     #[error("line {0}: expected `RANK /PATH`")]
     Own(usize),
+    /// This line of a list of directories is no path, or the path has an empty, `.` or `..` component.
+    #[error("line {0}: expected `/PATH` with no empty, . or .. component")]
+    Path(usize),
     /// The file `complete` isn't the one line that the collector writes.
     #[error("expected one line `NAME FSID`")]
     Complete,

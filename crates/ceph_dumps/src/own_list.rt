@@ -45,7 +45,7 @@ fn words_of(line: &[u8]) -> Option<(u64, &[u8])>
 }
 
 /// The path of a name that lacks its slash.
-fn path_of(alloc: Global, name: &[u8]) -> Result<Vec<u8>, AllocError>
+pub(crate) fn path_of(alloc: Global, name: &[u8]) -> Result<Vec<u8>, AllocError>
     ensures { IfOk result (λ path. path.items ≡ 47 ∷ named_bytes 0 name.now) }
 {
     let mut path = Vec::with_capacity(alloc, name.len() + 1)?;
@@ -76,7 +76,7 @@ fn push_pin(
 }
 
 /// The lines of a list.
-fn lines_of(alloc: Global, bytes: &[u8]) -> Result<Vec<&[u8]>, AllocError>
+pub(crate) fn lines_of(alloc: Global, bytes: &[u8]) -> Result<Vec<&[u8]>, AllocError>
     ensures { IfOk result (λ lines. map (λ line. line.now) lines.items ≡ list_lines bytes.now) }
 {
     bytes.split(|byte| *byte == b'\n').collect(alloc)

@@ -4,6 +4,7 @@
 
 pub mod back;
 pub mod foreign;
+mod left;
 pub mod own_list;
 pub mod pins;
 pub mod pins_script;

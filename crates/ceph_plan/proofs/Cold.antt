@@ -1,5 +1,5 @@
 -- Which parts heat leaves, with one more row.
-use Rattle.std.proofs.Common.{◌≡◌, ◌≢◌, ◌∙◌, ◌<◌, ◌+◌, ◌⊎◌, ℕ, Bool, false, true, List, ap, arith, get_or, length, set, slice_index, subst, sym, ⊎_elim}
+use Rattle.std.proofs.Common.{◌≡◌, ◌≢◌, ◌∙◌, ◌<◌, ◌+◌, ℕ, Bool, false, true, List, ap, arith, get_or, set, slice_index, sym, ⊎_elim}
 use Rattle.std.proofs.lemmas.Bool.{cases_eq}
 use Rattle.std.proofs.lemmas.List.{get_or-set_other}
 use Rattle.mds_types.specs.declared.problem.ProblemRow.{ProblemRow}

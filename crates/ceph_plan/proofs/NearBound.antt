@@ -1,5 +1,5 @@
 -- What is within the tolerance of a bound of all assignments is within the limit of a plan.
-use Rattle.std.proofs.Common.{◌≡◌, ◌∙◌, ◌<◌, ◌≤◌, ◌+◌, ◌*◌, ◌/◌, ℕ, zero, suc, List, [], ◌∷◌, Option, Some, ap, arith, length, refl, slice_index, sym}
+use Rattle.std.proofs.Common.{◌≡◌, ◌∙◌, ◌<◌, ◌≤◌, ◌*◌, ◌/◌, ℕ, zero, suc, List, [], ◌∷◌, Option, Some, ap, arith, length, refl, slice_index, sym}
 use Rattle.std.specs.List.{slice_get}
 use Rattle.std.specs.Option.{option_map_or}
 use Rattle.std.proofs.Math.Nat.{mul-le-mul_left}
@@ -11,9 +11,8 @@ use Rattle.ceph_plan.specs.declared.packing.Packing.{Packing}
 use Rattle.ceph_plan.specs.declared.plan.PackedDivision.{PackedDivision}
 use Rattle.ceph_plan.specs.declared.plan.Planned.{Planned}
 use Rattle.ceph_plan.specs.Balance.{IsPackedEvenly, allowed, greatest_by, load_of_parts}
-use Rattle.ceph_plan.specs.Choice.{AreCool, IsLimit, IsPlanChoice, even_at, packings_at}
+use Rattle.ceph_plan.specs.Choice.{AreCool, IsLimit, IsPlanChoice, even_at}
 use Rattle.ceph_plan.specs.Packing.{IsBoundOf, greatest_load, load, packed_rank}
-use Rattle.ceph_plan.specs.Plans.{IsDivided}
 use Rattle.ceph_plan.proofs.Bounds.{greatest-same}
 use Rattle.ceph_plan.proofs.PartSums.{load-parts}
 use Rattle.ceph_plan.proofs.Taken.{are-cool, divisions-tried, inside-packings}

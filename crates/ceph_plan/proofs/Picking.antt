@@ -2,8 +2,8 @@
 use Rattle.std.proofs.Common.{◌≡◌, ◌≢◌, ◌<◌, ◌≤◌, ◌+◌, ◌⊎◌, ℕ, List, ap, arith, inl, inr, length, subst, sym, ⊎_elim}
 use Rattle.std.proofs.lemmas.Bool.{cases_eq, cases_lt}
 use Rattle.ceph_plan.specs.declared.candidate.Candidate.{Candidate}
-use Rattle.ceph_plan.specs.declared.choice.PartCount.{PartCount}
-use Rattle.ceph_plan.specs.Candidates.{HasFewPins, IsCheaperAt, greatest_at, heats_at, moves_at}
+use Rattle.ceph_plan.specs.declared.choice.Wanted.{Wanted}
+use Rattle.ceph_plan.specs.Candidates.{IsAllowed, IsCheaperAt, greatest_at, heats_at, moves_at}
 
 -- one pair of numbers comes before another
 abbrev pub IsLess : ℕ → ℕ → ℕ → ℕ → Type 0
@@ -38,18 +38,18 @@ less-than a x b y c z one never =
     (cases_lt c b)
 
 -- of the plans so far that fit, the best is the first of the cheapest
-pub record IsBestSoFar (limit : ℕ) (parts : PartCount) (candidates : List Candidate) (at best : ℕ) : Type 0 where
+pub record IsBestSoFar (limit : ℕ) (wanted : Wanted) (candidates : List Candidate) (at best : ℕ) : Type 0 where
   pub place : (best ≡ length candidates) ⊎ (best < at)
   pub size : best ≤ length candidates
   pub within : best < length candidates → greatest_at candidates best ≤ limit
-  pub few : best < length candidates → HasFewPins parts candidates best
-  pub cheapest : (v : ℕ) → v < at → greatest_at candidates v ≤ limit → HasFewPins parts candidates v → (best < length candidates) × ¬ IsCheaperAt candidates v best
-  pub first : (v : ℕ) → v < best → v < at → greatest_at candidates v ≤ limit → HasFewPins parts candidates v → IsCheaperAt candidates best v
+  pub few : best < length candidates → IsAllowed wanted candidates best
+  pub cheapest : (v : ℕ) → v < at → greatest_at candidates v ≤ limit → IsAllowed wanted candidates v → (best < length candidates) × ¬ IsCheaperAt candidates v best
+  pub first : (v : ℕ) → v < best → v < at → greatest_at candidates v ≤ limit → IsAllowed wanted candidates v → IsCheaperAt candidates best v
 
-module _ (limit : ℕ) (parts : PartCount) (candidates : List Candidate) (at best : ℕ) (inside : at < length candidates) (old : IsBestSoFar limit parts candidates at best) where
+module _ (limit : ℕ) (wanted : Wanted) (candidates : List Candidate) (at best : ℕ) (inside : at < length candidates) (old : IsBestSoFar limit wanted candidates at best) where
   -- the next one is better
-  pub best-new : greatest_at candidates at ≤ limit → HasFewPins parts candidates at → (best ≡ length candidates) ⊎ IsCheaperAt candidates at best
-      → IsBestSoFar limit parts candidates (at + 1) at
+  pub best-new : greatest_at candidates at ≤ limit → IsAllowed wanted candidates at → (best ≡ length candidates) ⊎ IsCheaperAt candidates at best
+      → IsBestSoFar limit wanted candidates (at + 1) at
   best-new cool has better = record {
     place = inr (omega arith);
     size = omega (arith, inside);
@@ -79,8 +79,8 @@ module _ (limit : ℕ) (parts : PartCount) (candidates : List Candidate) (at bes
           cheaper
 
   -- the next one isn't better
-  pub best-old : (greatest_at candidates at ≤ limit → HasFewPins parts candidates at → (best < length candidates) × ¬ IsCheaperAt candidates at best)
-      → IsBestSoFar limit parts candidates (at + 1) best
+  pub best-old : (greatest_at candidates at ≤ limit → IsAllowed wanted candidates at → (best < length candidates) × ¬ IsCheaperAt candidates at best)
+      → IsBestSoFar limit wanted candidates (at + 1) best
   best-old never = record {
     place = ⊎_elim (λ (none : best ≡ length candidates). inl none) (λ (l : best < at). inr (omega (arith, l))) old.place;
     size = old.size;
@@ -98,8 +98,8 @@ module _ (limit : ℕ) (parts : PartCount) (candidates : List Candidate) (at bes
         (λ (other : v ≢ at). old.first v less (omega (arith, l, other)) fits few) (cases_eq v at);
   }
     where
-      here : (v : ℕ) → v ≡ at → greatest_at candidates v ≤ limit → HasFewPins parts candidates v → (best < length candidates) × ¬ IsCheaperAt candidates at best
-      here v this fits few = never (subst (λ (k : ℕ). greatest_at candidates k ≤ limit) this fits) (subst (λ (k : ℕ). HasFewPins parts candidates k) this few)
+      here : (v : ℕ) → v ≡ at → greatest_at candidates v ≤ limit → IsAllowed wanted candidates v → (best < length candidates) × ¬ IsCheaperAt candidates at best
+      here v this fits few = never (subst (λ (k : ℕ). greatest_at candidates k ≤ limit) this fits) (subst (λ (k : ℕ). IsAllowed wanted candidates k) this few)
 
 -- nothing comes before the best
 pub not-before : (candidates : List Candidate) (at best : ℕ) → best ≤ length candidates → ¬ ((best ≡ length candidates) ⊎ IsCheaperAt candidates at best)

@@ -1,5 +1,5 @@
 -- What a proposal is that is picked of several plans.
-use Rattle.std.proofs.Common.{◌≡◌, ◌∙◌, ◌<◌, ◌+◌, ◌⊎◌, ℕ, Bool, List, [], ◌∷◌, ◌++◌, Some, ap, arith, inl, inr, length, refl, slice_index, subst, sym, ⊎_elim}
+use Rattle.std.proofs.Common.{◌≡◌, ◌∙◌, ◌<◌, ◌≤◌, ◌↔◌, ℕ, Bool, IsTrue, List, [], ◌∷◌, ◌++◌, Some, ap, arith, inl, inr, length, refl, slice_index, subst, sym, ⊎_elim}
 use Rattle.std.specs.List.{slice_get}
 use Rattle.std.proofs.lemmas.Option.{none-some, slice_get_within}
 use Rattle.mds_types.specs.declared.problem.ProblemRow.{ProblemRow}
@@ -16,14 +16,24 @@ use Rattle.ceph_plan.specs.Asked.{ArePinRows}
 use Rattle.ceph_plan.specs.Candidates.{AreBegun, AreCandidates, ColdStays, IsCandidate, IsCandidateRefusal, IsPicked, IsPresent}
 use Rattle.ceph_plan.specs.Changes.{AreChangesFor}
 use Rattle.ceph_plan.specs.Choice.{IsLimitedChoice}
+use Rattle.ceph_plan.specs.Packing.{HaveParts}
 use Rattle.ceph_plan.specs.Placements.{AreAsWanted, IsPlacement, IsPlacementAt}
 use Rattle.ceph_plan.specs.Plans.{IsPlan}
-use Rattle.ceph_plan.specs.Proposals.{IsProposal}
+use Rattle.ceph_plan.specs.Proposals.{IsProposal, KeepsWithin}
 use Rattle.ceph_plan.specs.Refusals.{IsPlanRefusal, IsPlannable, IsProposalRefusal}
 use Rattle.ceph_plan.proofs.Weighed.{get_either, get_kept}
 
 pub plan-placed : (ranks : ℕ) (pinned : List ℕ) (rows : List ProblemRow) (plan : Planned) → IsPlan ranks pinned rows plan → IsPlacement ranks pinned rows plan
 plan-placed ranks pinned rows plan is = record { forest = is.forest; size = is.size; division = is.division; packing = is.packing; moved = is.moved }
+
+-- each row of a placement is in a part that has a rank
+pub placed-parts : (ranks : ℕ) (pinned : List ℕ) (rows : List ProblemRow) (plan : Planned) → IsPlacement ranks pinned rows plan
+    → HaveParts rows plan.part.items (length plan.packing.rank.items)
+placed-parts ranks pinned rows plan is = record {
+  forest = is.forest;
+  size = is.size;
+  below = λ i inside. omega (arith, is.packing.size, is.division.below i inside);
+}
 
 -- where rows keep the ranks that they have, and go to these ranks, they stay
 pub present-at : (ranks : ℕ) (rows : List ProblemRow) (now goals : List ℕ) (plan : Planned) → ((i : ℕ) → i < length rows → slice_index now i ≡ now_at rows i)
@@ -85,11 +95,21 @@ pub refused-proposal : (ranks : ℕ) (pinned : List ℕ) (rows : List ProblemRow
 refused-proposal ranks pinned rows wanted own error able is =
     elim is [ inl memory ↦ inr (subst (IsPlanRefusal ranks pinned rows wanted) (sym memory) able) | inr root ↦ inl root ]
 
+-- what is taken keeps within what is wanted where it moves few enough inodes, and leaves what is to be left
+pub keeps-within : (ranks : ℕ) (pinned : List ℕ) (rows : List ProblemRow) (own : List OwnPins) (wanted : Wanted) (taken : Candidate) (is : Bool)
+    → IsTrue is ↔ ((taken.plan.moved ≤ wanted.most_inodes) × IsTrue taken.keeps_left) → IsCandidate ranks pinned rows own wanted.rests taken
+    → IsTrue is ↔ KeepsWithin rows wanted own taken.plan
+keeps-within ranks pinned rows own wanted taken is known of = (
+  λ yes. let both = known.0 yes in record { inodes = both.0; left = of.left.0 both.1 },
+  λ (within : KeepsWithin rows wanted own taken.plan). known.1 (within.inodes, of.left.1 within.left),
+)
+
 pub proposed : (ranks : ℕ) (pinned : List ℕ) (rows : List ProblemRow) (wanted : Wanted) (own : List OwnPins) (limit k : ℕ) (divided : Planned) (candidates : List Candidate)
     (taken : Candidate) (found : Proposal) → IsLimitedChoice ranks pinned rows wanted limit divided → AreCandidates ranks pinned rows own wanted.rests divided candidates
-    → slice_get candidates k ≡ Some taken → IsPicked limit wanted.parts candidates k → found.plan ≡ taken.plan → found.rows.items ≡ taken.rows.items
-    → AreChangesFor taken.rows.items found.changes.items → IsProposal ranks pinned rows wanted own found
-proposed ranks pinned rows wanted own limit k divided candidates taken found choice are there picked plan asked changes =
+    → slice_get candidates k ≡ Some taken → IsPicked limit wanted candidates k → found.plan ≡ taken.plan → found.rows.items ≡ taken.rows.items
+    → AreChangesFor taken.rows.items found.changes.items
+    → IsTrue found.is_within ↔ ((taken.plan.moved ≤ wanted.most_inodes) × IsTrue taken.keeps_left) → IsProposal ranks pinned rows wanted own found
+proposed ranks pinned rows wanted own limit k divided candidates taken found choice are there picked plan asked changes within =
     let of : IsCandidate ranks pinned rows own wanted.rests taken = candidate-at ranks pinned rows own wanted.rests divided candidates k taken are there in
     record {
       divided = divided;
@@ -107,4 +127,6 @@ proposed ranks pinned rows wanted own limit k divided candidates taken found cho
       targets = subst (λ (p : Planned). ArePinRows rows p.part.items p.packing.rank.items own (length rows) wanted.rests found.rows.items) (sym plan)
           (subst (λ (xs : List PinRow). ArePinRows rows taken.plan.part.items taken.plan.packing.rank.items own (length rows) wanted.rests xs) (sym asked) of.asked);
       changes = subst (λ (xs : List PinRow). AreChangesFor xs found.changes.items) (sym asked) changes;
+      within = subst (λ (p : Planned). IsTrue found.is_within ↔ KeepsWithin rows wanted own p) (sym plan)
+          (keeps-within ranks pinned rows own wanted taken found.is_within within of);
     }

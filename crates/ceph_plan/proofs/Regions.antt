@@ -1,15 +1,14 @@
 -- The parts of rows that go to given ranks, with one more row, and what plan they are.
-use Rattle.std.proofs.Common.{◌≡◌, ◌≢◌, ◌∙◌, ◌<◌, ◌≤◌, ◌+◌, ◌*◌, ◌^◌, ◌⊎◌, ◌||◌, ◌==◌, ℕ, zero, suc, Bool, true, false, not, cond, eqb, List, [], ◌∷◌, ◌++◌, length, length-append, max, slice_index, ap, arith, inl, inr, refl, subst, sym, ⊎_elim}
-use Rattle.std.proofs.lemmas.Bool.{cases_Bool, cases_eq, eq-eqb, eqb-true, both_ways, or_parts, eqb-false}
+use Rattle.std.proofs.Common.{◌≡◌, ◌≢◌, ◌∙◌, ◌<◌, ◌≤◌, ◌+◌, ◌*◌, ◌^◌, ◌⊎◌, ◌==◌, ℕ, zero, suc, Bool, true, false, not, cond, List, [], ◌∷◌, ◌++◌, length, length-append, max, slice_index, ap, arith, refl, subst, sym, ⊎_elim}
+use Rattle.std.proofs.lemmas.Bool.{cases_Bool, cases_eq, eqb-true, both_ways, or_parts, eqb-false}
 use Rattle.mds_types.specs.declared.problem.ProblemRow.{ProblemRow}
-use Rattle.mds_types.specs.Problem.{IsForest, heat_at, now_at, parent_at}
+use Rattle.mds_types.specs.Problem.{IsForest, heat_at, parent_at}
 use Rattle.mds_types.specs.RankSet.{has_rank}
-use Rattle.mds_types.specs.Sums.{sum_below}
 use Rattle.mds_types.proofs.SumsLemmas.{sum_below-same}
 use Rattle.residual_cut.specs.Labels.{IsLabelled, starts}
 use Rattle.residual_cut.proofs.LabelLemmas.{labelled_none, labelled_parts, labelled_step, slice_index-last, slice_index-push}
 use Rattle.ceph_plan.specs.Packing.{IsPacking, greatest_of, heat_to, load, packed_rank}
-use Rattle.ceph_plan.specs.Placements.{AreGoals, AreAsWanted, AreLoads, AreRegions, IsPlacement, is_border}
+use Rattle.ceph_plan.specs.Placements.{AreGoals, AreLoads, AreRegions, IsPlacement, is_border}
 use Rattle.ceph_plan.specs.Plans.{moved_inodes}
 use Rattle.ceph_plan.specs.declared.plan.Planned.{Planned}
 use Rattle.ceph_plan.proofs.Bounds.{greatest-same}

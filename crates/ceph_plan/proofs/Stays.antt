@@ -1,21 +1,18 @@
 -- Where the present placement is cool enough, it is the plan.
-use Rattle.std.proofs.Common.{◌≡◌, ◌∙◌, ◌<◌, ◌≤◌, ◌==◌, ◌+◌, ◌⊎◌, ℕ, zero, suc, List, Option, Some, ap, arith, cond, length, refl, slice_index, subst, sym, ⊎_elim}
+use Rattle.std.proofs.Common.{◌≡◌, ◌∙◌, ◌<◌, ◌≤◌, ◌==◌, ◌+◌, ℕ, zero, suc, List, Option, Some, ap, arith, cond, length, refl, slice_index, subst, sym, ⊎_elim}
 use Rattle.std.specs.List.{slice_get}
 use Rattle.std.specs.Option.{option_map_or}
 use Rattle.std.proofs.lemmas.Bool.{cases_lt, eq-eqb}
 use Rattle.mds_types.specs.declared.problem.ProblemRow.{ProblemRow}
 use Rattle.mds_types.specs.Problem as problem
-use Rattle.mds_types.specs.RankSet.{has_rank}
 use Rattle.mds_types.specs.Sums.{sum_below}
 use Rattle.mds_types.proofs.SumsLemmas.{sum_below-zero}
 use Rattle.ceph_plan.specs.declared.candidate.Candidate.{Candidate}
 use Rattle.ceph_plan.specs.declared.choice.Wanted.{Wanted}
-use Rattle.ceph_plan.specs.declared.plan.Planned.{Planned}
 use Rattle.ceph_plan.specs.declared.proposal.OwnPins.{OwnPins}
 use Rattle.ceph_plan.specs.declared.proposal.Proposal.{Proposal}
-use Rattle.ceph_plan.specs.Candidates.{CanStay, HasFewPins, IsCandidate, IsCheaperAt, Stays, greatest_at, heats_at, moves_at, moved_heat}
+use Rattle.ceph_plan.specs.Candidates.{CanStay, IsAllowed, IsCandidate, Stays, greatest_at, heats_at, moves_at}
 use Rattle.ceph_plan.specs.Packing.{greatest_load, load, packed_rank}
-use Rattle.ceph_plan.specs.Plans.{moved_inodes}
 use Rattle.ceph_plan.specs.Proposals.{IsProposal}
 use Rattle.ceph_plan.proofs.Bounds.{greatest-same}
 use Rattle.ceph_plan.proofs.Proposed.{present-first}
@@ -29,7 +26,7 @@ nothing-moves : (rows : List ProblemRow) (f to now : ℕ → ℕ) (n : ℕ) → 
 nothing-moves rows f to now n same = sum_below-zero n (λ i. cond (to i == now i) 0 (f i)) (λ i l. rw (eq-eqb (to i) (now i) (same i l)) refl)
 
 pub stays : (ranks : ℕ) (pinned : List ℕ) (rows : List ProblemRow) (wanted : Wanted) (own : List OwnPins) (found : Proposal) (is : IsProposal ranks pinned rows wanted own found)
-    → CanStay ranks rows → HasFewPins wanted.parts is.candidates 0 → greatest_load ranks pinned rows (problem.now_at rows) ≤ is.limit → Stays rows found.plan
+    → CanStay ranks rows → IsAllowed wanted is.candidates 0 → greatest_load ranks pinned rows (problem.now_at rows) ≤ is.limit → Stays rows found.plan
 stays ranks pinned rows wanted own found is can few cool =
     let one : Candidate = is.are.begun.present.0 in
     let there : slice_get is.candidates 0 ≡ Some one = present-first ranks pinned rows own wanted.rests is.divided is.candidates is.are in

@@ -1,6 +1,6 @@
 -- What is asked of export pins.
 use Rattle.std.specs.Prelude.{◌≡◌, ◌==◌, ◌<◌, ◌&&◌, ◌||◌, ℕ, Bool, List, Option, Some, None}
-use Rattle.std.specs.Prelude.{is_none, length, slice_index_or, if◌then◌else◌}
+use Rattle.std.specs.Prelude.{false, is_none, length, slice_index_or, if◌then◌else◌}
 use Rattle.mds_types.specs.declared.problem.ProblemRow.{ProblemRow}
 use Rattle.mds_types.specs.Problem.{now_at, parent_at}
 use Rattle.ceph_plan.specs.declared.row.PinRow.{PinRow}
@@ -10,7 +10,7 @@ use Rattle.ceph_plan.specs.declared.proposal.OwnPins.{OwnPins}
 
 -- what is read past the last row
 abbrev pub no_pins : OwnPins
-no_pins = record { foreign = None; earlier = None }
+no_pins = record { foreign = None; earlier = None; is_left = false }
 
 abbrev pub own_at : List OwnPins → ℕ → OwnPins
 own_at own i = slice_index_or own i no_pins

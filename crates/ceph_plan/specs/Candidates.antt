@@ -1,6 +1,6 @@
 -- Plans that may be taken, and which of them is.
-use Rattle.std.specs.Prelude.{◌≡◌, ◌≢◌, ◌==◌, ◌<◌, ◌≤◌, ◌⊎◌, ◌++◌, ◌∷◌, [], ℕ, Bool, List, None, Some, length}
-use Rattle.std.specs.Prelude.{slice_get, slice_index, true, if◌then◌else◌}
+use Rattle.std.specs.Prelude.{◌≡◌, ◌≢◌, ◌==◌, ◌<◌, ◌≤◌, ◌⊎◌, ◌++◌, ◌∷◌, ◌↔◌, [], ℕ, Bool, List, None, Some, length}
+use Rattle.std.specs.Prelude.{IsTrue, false, slice_get, slice_index, true, if◌then◌else◌}
 use Rattle.std.specs.Option.{option_map_or}
 use Rattle.mds_types.specs.declared.problem.ProblemRow.{ProblemRow}
 use Rattle.mds_types.specs.Problem as problem
@@ -13,6 +13,7 @@ use Rattle.ceph_plan.specs.Rule.{ArePinsFor, AreRows}
 use Rattle.ceph_plan.specs.declared.candidate.Candidate.{Candidate}
 use Rattle.ceph_plan.specs.declared.proposal.OwnPins.{OwnPins}
 use Rattle.ceph_plan.specs.declared.choice.PartCount.{PartCount}
+use Rattle.ceph_plan.specs.declared.choice.Wanted.{Wanted}
 use Rattle.ceph_plan.specs.declared.choice.PartCount.TheVariants.{AtMost, Auto}
 use Rattle.ceph_plan.specs.declared.plan.Planned.{Planned}
 use Rattle.ceph_plan.specs.declared.plan_error.PlanError.{PlanError}
@@ -24,8 +25,13 @@ abbrev pub moved_heat : List ProblemRow → List ℕ → List ℕ → ℕ → �
 moved_heat rows part rank n =
     sum_below n (λ i. if packed_rank rank part i == problem.now_at rows i then 0 else problem.heat_at rows i)
 
--- a plan of these rows with what it costs: what is asked of each row, how many pins of ours put the rows there, and the
--- heat that moves
+-- each of the first n rows that is to be left goes to the rank that has it
+abbrev pub AreLeft : List ProblemRow → List OwnPins → List ℕ → List ℕ → ℕ → Type 0
+AreLeft rows own part rank n =
+    (i : ℕ) → i < n → (own_at own i).is_left ≡ true → packed_rank rank part i ≡ problem.now_at rows i
+
+-- a plan of these rows with what it costs: what is asked of each row, how many pins of ours put the rows there, the heat
+-- that moves, and whether all that is to be left is
 pub record IsCandidate (ranks : ℕ) (pinned : List ℕ) (rows : List ProblemRow) (own : List OwnPins) (rests : Bool)
     (one : Candidate) : Type 0 where
   pub placed : IsPlacement ranks pinned rows one.plan
@@ -35,6 +41,7 @@ pub record IsCandidate (ranks : ℕ) (pinned : List ℕ) (rows : List ProblemRow
   pub are : ArePinsFor one.rows.items pins
   pub count : one.pins ≡ length pins
   pub heat : one.heat ≡ moved_heat rows one.plan.part.items one.plan.packing.rank.items (length rows)
+  pub left : IsTrue one.keeps_left ↔ AreLeft rows own one.plan.part.items one.plan.packing.rank.items (length rows)
 
 -- why there is none: out of memory, or the root has a pin that is to stay
 abbrev pub IsCandidateRefusal : List OwnPins → PlanError → Type 0
@@ -103,21 +110,30 @@ abbrev pub HasFewPins : PartCount → List Candidate → ℕ → Type 0
 HasFewPins (Auto most) candidates v = pins_at candidates v ≤ most
 HasFewPins (AtMost parts) candidates v = parts_at candidates v ≤ parts
 
+-- whether candidate v leaves each row that is to be left where it is
+abbrev pub keeps_at : List Candidate → ℕ → Bool
+keeps_at candidates v = option_map_or (λ (one : Candidate). one.keeps_left) (slice_get candidates v) false
+
+-- candidate v may be taken: it has few enough pins, no more inodes move than are wanted, and what is to be left is
+abbrev pub IsAllowed : Wanted → List Candidate → ℕ → Type 0
+IsAllowed wanted candidates v =
+    HasFewPins wanted.parts candidates v × (moves_at candidates v ≤ wanted.most_inodes) × IsTrue (keeps_at candidates v)
+
 -- fewer inodes move, or as few with less heat
 abbrev pub IsCheaperAt : List Candidate → ℕ → ℕ → Type 0
 IsCheaperAt candidates v w =
     (moves_at candidates v < moves_at candidates w)
     ⊎ ((moves_at candidates v ≡ moves_at candidates w) × (heats_at candidates v < heats_at candidates w))
 
--- candidate k is taken. Where some have few enough pins, it has, and is within the limit if one of them is. Of those
--- that are, none is cheaper, and the first of the cheapest is taken; where none of them is within it, none is cooler
-pub record IsPicked (limit : ℕ) (parts : PartCount) (candidates : List Candidate) (k : ℕ) : Type 0 where
-  pub few : (v : ℕ) → v < length candidates → HasFewPins parts candidates v → HasFewPins parts candidates k
-  pub cool : (v : ℕ) → v < length candidates → HasFewPins parts candidates v
+-- candidate k is taken. Where some may be taken, it may, and is within the limit if one of them is. Of those that are,
+-- none is cheaper, and the first of the cheapest is taken; where none of them is within it, none is cooler
+pub record IsPicked (limit : ℕ) (wanted : Wanted) (candidates : List Candidate) (k : ℕ) : Type 0 where
+  pub allowed : (v : ℕ) → v < length candidates → IsAllowed wanted candidates v → IsAllowed wanted candidates k
+  pub cool : (v : ℕ) → v < length candidates → IsAllowed wanted candidates v
       → (greatest_at candidates k ≤ limit) ⊎ (greatest_at candidates k ≤ greatest_at candidates v)
-  pub cheapest : (v : ℕ) → v < length candidates → greatest_at candidates v ≤ limit → HasFewPins parts candidates v
+  pub cheapest : (v : ℕ) → v < length candidates → greatest_at candidates v ≤ limit → IsAllowed wanted candidates v
       → ¬ IsCheaperAt candidates v k
-  pub first : (v : ℕ) → v < k → greatest_at candidates v ≤ limit → HasFewPins parts candidates v
+  pub first : (v : ℕ) → v < k → greatest_at candidates v ≤ limit → IsAllowed wanted candidates v
       → IsCheaperAt candidates k v
 
 -- each row is at a rank of the set, and the root at rank 0

@@ -1,10 +1,9 @@
 -- Plans that are made from a rank for each row: the parts are the largest connected sets of rows that go to one rank.
-use Rattle.std.specs.Prelude.{◌≡◌, ◌==◌, ◌<◌, ◌≤◌, ◌+◌, ℕ, Bool, true, not, List, length, slice_index, if◌then◌else◌}
+use Rattle.std.specs.Prelude.{◌≡◌, ◌==◌, ◌<◌, ◌≤◌, ◌+◌, ℕ, Bool, true, not, List, length, slice_index}
 use Rattle.mds_types.specs.declared.problem.ProblemRow.{ProblemRow}
 use Rattle.mds_types.specs.Division.{IsDivision}
-use Rattle.mds_types.specs.Problem.{IsForest, heat_at, now_at, parent_at}
+use Rattle.mds_types.specs.Problem.{IsForest, parent_at}
 use Rattle.mds_types.specs.RankSet.{has_rank}
-use Rattle.mds_types.specs.Sums.{sum_below}
 use Rattle.residual_cut.specs.Labels.{IsLabelled}
 use Rattle.ceph_plan.specs.Packing.{IsPacking, heat_to, packed_rank}
 use Rattle.ceph_plan.specs.Plans.{moved_inodes}

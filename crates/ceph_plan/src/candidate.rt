@@ -1,14 +1,15 @@
 //! Plans that may be taken, each with what it costs. The first is the present placement.
-ghost use Rattle.std.specs.Prelude.{◌≡◌, ◌<◌, ℕ, length, slice_index, slice_index_or, false, true};
+ghost use Rattle.std.specs.Prelude.{◌≡◌, ◌<◌, ◌↔◌, ℕ, length, slice_index, slice_index_or, false, true};
 ghost use Rattle.std.specs.Prelude.{IfErr, IfOk, IsTrue};
 ghost use Rattle.mds_types.specs.Problem.{IsForest, now_at};
 ghost use Rattle.mds_types.specs.RankSet.{has_rank};
 ghost use Rattle.ceph_plan.specs.Asked.{ArePinRows, own_at, rest_where};
-ghost use Rattle.ceph_plan.specs.Candidates.{AreBegun, ColdStays, HasLeaving, IsCandidate, IsCandidateRefusal};
+ghost use Rattle.ceph_plan.specs.Candidates.{AreBegun, AreLeft, ColdStays, HasLeaving, IsCandidate, IsCandidateRefusal};
 ghost use Rattle.ceph_plan.specs.Candidates.{Leaves, moved_heat};
 ghost use Rattle.ceph_plan.specs.Packing.{HaveParts};
 ghost use Rattle.ceph_plan.specs.Placements.{AreGoals, IsPlacement, IsPlacementAt};
 
+use crate::choice::{PartCount, Wanted};
 use crate::moving::{First, Ground, moved_from};
 use crate::pins::{are_rows, pins_for};
 use crate::placement::{placed, ranks_now, usable_goals};
@@ -30,6 +31,15 @@ pub struct Candidate {
     pub pins: usize,
     /// The heat of the rows that are to go to another rank.
     pub heat: u64,
+    /// Whether each row that is to be left is where it is.
+    pub keeps_left: bool,
+}
+
+/// How many pins there may be, as far as that is said.
+fn most_pins(parts: PartCount) -> usize {
+    match parts {
+        PartCount::Auto(most) | PartCount::AtMost(most) => usize::from(most),
+    }
 }
 
 /// Where a row is while no pin holds it, as far as that is known.
@@ -92,6 +102,20 @@ fn heat_moved(rows: &[ProblemRow], part: &[u32], rank: &[Rank]) -> u64
     moved
 }
 
+/// Whether each row that is to be left goes to the rank that has it.
+fn keeps_left(rows: &[ProblemRow], part: &[u32], rank: &[Rank], own: &[OwnPins]) -> bool
+    requires parts { HaveParts rows.now part.now (length rank.now) }
+    requires own { length own.now ≡ length rows.now }
+    ensures { IsTrue result ↔ AreLeft rows.now own.now part.now rank.now (length rows.now) }
+{
+    for (i, row) in rows.iter().enumerate() {
+        if own[i].is_left && rank[part[i] as usize] != row.now {
+            return false;
+        }
+    }
+    true
+}
+
 /// A plan with what it costs.
 pub(crate) fn costed(
     alloc: Global,
@@ -114,11 +138,13 @@ pub(crate) fn costed(
     }
     let pins = pins_for(alloc, &rows)?.len();
     let heat = heat_moved(of.rows, &plan.part, &plan.packing.rank);
+    let keeps_left = keeps_left(of.rows, &plan.part, &plan.packing.rank, own);
     Ok(Candidate {
         plan,
         rows,
         pins,
         heat,
+        keeps_left,
     })
 }
 
@@ -212,25 +238,25 @@ fn leaves_cold(
 const WAYS: &[First] = &[First::Dense, First::Hot];
 
 /// The plans that begin from where things are: the present placement, and those that move directories from ranks above
-/// the limit, as far as there may be `most` pins, while what is cold stays.
+/// the limit, as far as there may be so many pins and so many inodes may move, while what is cold stays.
 pub(crate) fn begun(
     alloc: Global,
     of: &Plannable<'_>,
     own: &[OwnPins],
-    rests: bool,
+    wanted: Wanted,
     limit: u64,
-    most: usize,
 ) -> Result<Vec<Candidate>, PlanError>
     requires own { length own.now ≡ length of.now.rows.now }
     ensures begun { IfOk result (λ found. AreBegun of.now.ranks of.now.pinned.now of.now.rows.now own.now
-        rests found.items) }
+        wanted.rests found.items) }
     ensures refused { IfErr result (IsCandidateRefusal own.now) }
 {
     let (rows, ranks) = (of.rows, of.ranks);
     let now = ranks_now(alloc, rows)?;
     let present = usable_goals(alloc, rows, &now, ranks)?;
-    let stays = candidate_at(alloc, of, own, rests, &present)?;
-    let most = most.saturating_sub(stays.pins);
+    let stays = candidate_at(alloc, of, own, wanted.rests, &present)?;
+    let most = most_pins(wanted.parts).saturating_sub(stays.pins);
+    let most_inodes = wanted.most_inodes.saturating_sub(stays.plan.moved);
     let mut found = Vec::new(alloc);
     found.push(stays)?;
     for first in WAYS {
@@ -240,10 +266,12 @@ pub(crate) fn begun(
             limit,
             first: *first,
             most,
+            most_inodes,
+            own,
         };
         let moved = moved_from(alloc, &ground, of.pinned, &present)?;
         let goals = usable_goals(alloc, rows, &moved, ranks)?;
-        let one = candidate_at(alloc, of, own, rests, &goals)?;
+        let one = candidate_at(alloc, of, own, wanted.rests, &goals)?;
         if leaves_cold(alloc, rows, &one.plan.part, &one.plan.packing.rank, ranks)? {
             found.push(one)?;
         }

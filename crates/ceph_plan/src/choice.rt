@@ -33,6 +33,8 @@ pub struct Wanted {
     /// The percent by which the greatest load may pass that of the coolest packing by heat only, so that fewer inodes
     /// move.
     pub keep: u8,
+    /// No more inodes than this are to move.
+    pub most_inodes: u64,
     /// Whether a directory without a pin at or above it stays where it is, as it does while Ceph's balancer is off.
     /// Then only those get a pin that move, or that would move with the one above, and a pin of an earlier plan that
     /// has its directory away from the one above is kept or changed.

@@ -7,7 +7,7 @@ ghost use Rattle.std.specs.Prelude.{◌≡◌, ◌<◌, ◌≤◌, ◌⊎◌, �
 ghost use Rattle.ceph_plan.specs.declared.packing.TheConstants.{TOLERANCES};
 ghost use Rattle.ceph_plan.specs.declared.plan.PackedDivision.{PackedDivision};
 ghost use Rattle.ceph_plan.specs.declared.plan.Planned.{Planned};
-ghost use Rattle.ceph_plan.specs.Candidates.{CanStay, HasFewPins, Stays};
+ghost use Rattle.ceph_plan.specs.Candidates.{CanStay, IsAllowed, Stays};
 ghost use Rattle.ceph_plan.specs.Choice.{IsTaken};
 ghost use Rattle.ceph_plan.specs.Balance.{allowed};
 ghost use Rattle.ceph_plan.specs.Packing.{IsBoundOf, greatest_load};
@@ -40,11 +40,11 @@ pub fn larger_tolerance_moves_no_more()
 pub fn stays_where_that_is_cool_enough()
     ensures limit { (ranks : ℕ) (pinned : List ℕ) (rows : List ProblemRow) (wanted : Wanted) (own : List OwnPins)
         (found : Proposal) (is : IsProposal ranks pinned rows wanted own found) → CanStay ranks rows
-        → HasFewPins wanted.parts is.candidates 0 → greatest_load ranks pinned rows (now_at rows) ≤ is.limit
+        → IsAllowed wanted is.candidates 0 → greatest_load ranks pinned rows (now_at rows) ≤ is.limit
         → Stays rows found.plan }
     ensures bound { (ranks : ℕ) (pinned : List ℕ) (rows : List ProblemRow) (wanted : Wanted) (own : List OwnPins)
         (found : Proposal) (is : IsProposal ranks pinned rows wanted own found) (bound : ℕ) → CanStay ranks rows
-        → HasFewPins wanted.parts is.candidates 0 → IsBoundOf ranks pinned (length rows) (heat_at rows) bound
+        → IsAllowed wanted is.candidates 0 → IsBoundOf ranks pinned (length rows) (heat_at rows) bound
         → greatest_load ranks pinned rows (now_at rows) ≤ allowed wanted.keep bound → Stays rows found.plan }
 {}
 

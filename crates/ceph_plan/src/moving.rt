@@ -7,6 +7,7 @@ ghost use Rattle.std.specs.Prelude.{◌≡◌, length, IfOk};
 
 use crate::bound::has_number;
 use crate::order::PartHeat;
+use crate::proposal::OwnPins;
 use mds_types::limits::DIR_LIMIT;
 use mds_types::{ProblemRow, Rank, RankSet};
 use std::alloc::{AllocError, Global};
@@ -34,6 +35,17 @@ pub(crate) struct Ground<'a> {
     pub first: First,
     /// No more directories go, each with all that is below it.
     pub most: usize,
+    /// No more inodes go.
+    pub most_inodes: u64,
+    /// What is known of each row: one that is to be left doesn't go.
+    pub own: &'a [OwnPins],
+}
+
+/// How many directories, and how many inodes, may still go.
+#[derive(Clone, Copy)]
+struct Left {
+    directories: usize,
+    inodes: u64,
 }
 
 /// At most this many rounds are tried.
@@ -162,6 +174,14 @@ fn weight(first: First, heat: u64, inodes: u64) -> u64 {
     }
 }
 
+/// Whether a row is to be left where it is.
+fn is_left(own: &[OwnPins], row: usize) -> bool {
+    match own.get(row) {
+        Some(known) => known.is_left,
+        None => true,
+    }
+}
+
 /// The rows with heat that may leave ranks above the limit, those that go first last.
 fn leaving(
     alloc: Global,
@@ -173,7 +193,8 @@ fn leaving(
     for row in 1..ground.rows.len() {
         let load = read(&sums.loads, usize::from(rank_at(goals, row)));
         let heat = read(&sums.heats, row);
-        if row < DIR_LIMIT as usize && load > ground.limit && heat > 0 {
+        let may_go = row < DIR_LIMIT as usize && !is_left(ground.own, row);
+        if may_go && load > ground.limit && heat > 0 {
             let heat = weight(ground.first, heat, read(&sums.inodes, row));
             found.push(PartHeat {
                 heat,
@@ -268,26 +289,28 @@ fn settle(rows: &[ProblemRow], goals: &mut [Rank], to: &mut [u8]) {
     }
 }
 
-/// Moves what helps once, at most this many directories. How many it moves.
+/// Moves what helps once, as far as there is room. How much room there is then.
 fn moved_once(
     alloc: Global,
     ground: &Ground<'_>,
     pinned: &[u64],
     goals: &mut [Rank],
-    most: usize,
-) -> Result<usize, AllocError> {
+    mut left: Left,
+) -> Result<Left, AllocError> {
     let mut sums = sums_of(alloc, ground, goals, pinned)?;
     let order = leaving(alloc, ground, goals, &sums)?;
     let mut to = vec![in alloc; NONE; ground.rows.len()]?;
-    let mut count = 0;
     for one in order.iter().rev() {
         let row = one.part.0 as usize;
-        if count < most && send(ground, goals, &mut sums, &mut to, row) {
-            count += 1;
+        let inodes = read(&sums.inodes, row);
+        let may_go = left.directories > 0 && inodes <= left.inodes;
+        if may_go && send(ground, goals, &mut sums, &mut to, row) {
+            left.directories -= 1;
+            left.inodes -= inodes;
         }
     }
     settle(ground.rows, goals, &mut to);
-    Ok(count)
+    Ok(left)
 }
 
 /// A rank for each row, from these.
@@ -300,13 +323,16 @@ pub(crate) fn moved_from(
     ensures { IfOk result (λ found. length found.items ≡ length start.now) }
 {
     let mut goals = start.to_vec(alloc)?;
-    let mut left = ground.most;
+    let mut left = Left {
+        directories: ground.most,
+        inodes: ground.most_inodes,
+    };
     for _ in 0..MOST_ROUNDS {
-        let count = moved_once(alloc, ground, pinned, &mut goals, left)?;
-        if count == 0 {
+        let rest = moved_once(alloc, ground, pinned, &mut goals, left)?;
+        if rest.directories == left.directories {
             return Ok(goals);
         }
-        left = left.saturating_sub(count);
+        left = rest;
     }
     Ok(goals)
 }

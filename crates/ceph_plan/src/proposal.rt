@@ -1,5 +1,5 @@
 //! The changes of export pins that bring each directory to the rank that a plan gives it.
-ghost use Rattle.std.specs.Prelude.{◌≡◌, length, IfErr, IfOk};
+ghost use Rattle.std.specs.Prelude.{◌≡◌, ◌≤◌, ◌↔◌, length, IfErr, IfOk, IsTrue};
 ghost use Rattle.ceph_plan.specs.Candidates.{AreCandidates, IsCandidateRefusal};
 ghost use Rattle.ceph_plan.specs.Placements.{IsPlacement};
 ghost use Rattle.ceph_plan.specs.Proposals.{IsProposal};
@@ -7,7 +7,7 @@ ghost use Rattle.ceph_plan.specs.Refusals.{IsProposalRefusal};
 
 use crate::candidate::{Candidate, begun, costed};
 use crate::changes::changes_for;
-use crate::choice::{Limited, PartCount, Wanted, choose_within};
+use crate::choice::{Limited, Wanted, choose_within};
 use crate::pick::picked;
 use crate::plan::{Plannable, Planned};
 use crate::plan_error::PlanError;
@@ -15,13 +15,15 @@ use crate::row::{PinChange, PinRow};
 use mds_types::{ProblemRow, Rank, RankSet};
 use std::alloc::Global;
 
-/// The pins that a directory has of its own now.
+/// The pins that a directory has of its own now, and whether it may go to another rank.
 #[derive(Clone, Copy)]
 pub struct OwnPins {
     /// A pin that is to stay as it is.
     pub foreign: Option<Rank>,
     /// A pin of an earlier plan.
     pub earlier: Option<Rank>,
+    /// Whether it is to be left where it is.
+    pub is_left: bool,
 }
 
 /// What is asked of the pins, row by row, and the changes that do it.
@@ -33,13 +35,8 @@ pub struct Proposal {
     pub rows: Vec<PinRow>,
     /// The changes, in their order.
     pub changes: Vec<PinChange>,
-}
-
-/// How many pins there may be, as far as that is said.
-fn most_pins(parts: PartCount) -> usize {
-    match parts {
-        PartCount::Auto(most) | PartCount::AtMost(most) => usize::from(most),
-    }
+    /// Whether no more inodes move than are wanted, and all that is to be left is where it is.
+    pub is_within: bool,
 }
 
 /// The plans of which one is taken, the present placement first, and one that is divided anew last.
@@ -47,15 +44,14 @@ fn candidates(
     alloc: Global,
     of: &Plannable<'_>,
     own: &[OwnPins],
-    rests: bool,
+    wanted: Wanted,
     limit: u128,
-    parts: PartCount,
     divided: Planned,
 ) -> Result<Vec<Candidate>, PlanError>
     requires own { length own.now ≡ length of.now.rows.now }
     requires placed { IsPlacement of.now.ranks of.now.pinned.now of.now.rows.now divided }
     ensures candidates { IfOk result (λ found. AreCandidates of.now.ranks of.now.pinned.now of.now.rows.now
-        own.now rests divided found.items) }
+        own.now wanted.rests divided found.items) }
     ensures refused { IfErr result (IsCandidateRefusal own.now) }
 {
     let below = if limit > u128::from(u64::MAX) {
@@ -63,9 +59,16 @@ fn candidates(
     } else {
         limit as u64
     };
-    let mut found = begun(alloc, of, own, rests, below, most_pins(parts))?;
-    found.push(costed(alloc, of, own, rests, divided)?)?;
+    let mut found = begun(alloc, of, own, wanted, below)?;
+    found.push(costed(alloc, of, own, wanted.rests, divided)?)?;
     Ok(found)
+}
+
+/// Whether no more inodes move than are wanted, and each row that is to be left is where it is.
+fn is_within(one: &Candidate, wanted: Wanted) -> bool
+    ensures { IsTrue result ↔ ((one.now.plan.moved ≤ wanted.most_inodes) × IsTrue one.now.keeps_left) }
+{
+    one.plan.moved <= wanted.most_inodes && one.keeps_left
 }
 
 /// Plans which rank each row is to be at, and gives the changes of pins that bring it there: wherever it is now, or
@@ -90,13 +93,15 @@ pub fn propose(
         pinned,
         ranks,
     };
-    let mut found = candidates(alloc, &of, own, wanted.rests, limit, wanted.parts, plan)?;
-    let at = picked(&found, wanted.parts, limit);
+    let mut found = candidates(alloc, &of, own, wanted, limit, plan)?;
+    let at = picked(&found, wanted, limit);
     let taken = found.swap_remove(at);
     let changes = changes_for(alloc, &taken.rows)?;
+    let is_within = is_within(&taken, wanted);
     Ok(Proposal {
         plan: taken.plan,
         rows: taken.rows,
         changes,
+        is_within,
     })
 }

@@ -24,10 +24,12 @@ use Rattle.ceph_report.specs.declared.staying_text.LeftForm.TheVariants.{Member}
 abbrev pub truth : Bool → List ℕ
 truth is_so = if is_so then codes "true" else codes "false"
 
--- whether Ceph's balancer is on, and whether there is so little heat that nothing is proposed
+-- whether Ceph's balancer is on, whether there is so little heat that nothing is proposed, and whether the plan keeps
+-- within what is asked for
 unfoldable pub mode_members : Facts → List ℕ
 mode_members facts =
     codes ",\"balancer\":" ++ truth facts.balances ++ codes ",\"idle\":" ++ truth facts.is_idle
+    ++ codes ",\"within\":" ++ truth facts.is_within
 
 unfoldable pub plan_head : Facts → Bool → List ℕ
 plan_head facts is_proposed =

@@ -19,7 +19,7 @@ use Rattle.ceph_report.specs.declared.facts.BoundTerm.{BoundTerm}
 use Rattle.ceph_report.specs.declared.facts.BoundTerm.TheVariants.{Hottest, Mean, Pinned}
 use Rattle.ceph_report.specs.declared.facts.Facts.{Facts}
 use Rattle.ceph_report.specs.declared.moves.Move.{Move}
-use Rattle.ceph_report.specs.declared.report.TheConstants.{CAVEAT, IDLE, LINES_EACH, NOTHING, OVER}
+use Rattle.ceph_report.specs.declared.report.TheConstants.{CAVEAT, IDLE, LINES_EACH, NONE_WITHIN, NOTHING, OVER}
 use Rattle.ceph_report.specs.declared.staying.Stay.{Stay}
 use Rattle.ceph_report.specs.declared.staying_text.LeftForm.TheVariants.{Line}
 
@@ -194,8 +194,10 @@ left_out facts =
     ++ left_lines facts.directories.now facts.stays.now ++ capped_lines facts.directories.now
 
 -- the last line where nothing is proposed
-abbrev pub nothing_text : Bool → Bool → List ℕ
-nothing_text is_proposed is_idle = if is_proposed then [] else if is_idle then IDLE.now else NOTHING.now
+abbrev pub nothing_text : Facts → Bool → List ℕ
+nothing_text facts is_proposed =
+    if is_proposed then []
+    else if facts.is_idle then IDLE.now else if facts.is_within then NOTHING.now else NONE_WITHIN.now
 
 unfoldable pub report : Facts → Bool → List ℕ
-report facts is_proposed = plan_text facts ++ left_out facts ++ nothing_text is_proposed facts.is_idle
+report facts is_proposed = plan_text facts ++ left_out facts ++ nothing_text facts is_proposed

@@ -64,6 +64,8 @@ pub struct Facts<'a> {
     pub standing: usize,
     /// Whether there is so little heat that nothing is proposed and no ratio means anything.
     pub is_idle: bool,
+    /// Whether the plan moves no more inodes than it may, and leaves what is to be left.
+    pub is_within: bool,
 }
 
 /// A directory that is hottest.

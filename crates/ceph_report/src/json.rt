@@ -33,7 +33,8 @@ fn truth(is_so: bool) -> &'static str
     if is_so { "true" } else { "false" }
 }
 
-/// Adds whether Ceph's balancer is on, and whether there is so little heat that nothing is proposed.
+/// Adds whether Ceph's balancer is on, whether there is so little heat that nothing is proposed, and whether the plan
+/// keeps within what is asked for.
 #[tactic(auto, unfolding(crate::specs::Json::mode_members))]
 fn push_modes(text: &mut Vec<u8>, facts: &Facts) -> Result<(), AllocError>
     ensures { OnOk result (text.new.items ≡ text.old.items ++ mode_members facts.now) }
@@ -41,7 +42,9 @@ fn push_modes(text: &mut Vec<u8>, facts: &Facts) -> Result<(), AllocError>
     push_text(text, ",\"balancer\":")?;
     push_text(text, truth(facts.balances))?;
     push_text(text, ",\"idle\":")?;
-    push_text(text, truth(facts.is_idle))
+    push_text(text, truth(facts.is_idle))?;
+    push_text(text, ",\"within\":")?;
+    push_text(text, truth(facts.is_within))
 }
 
 /// Adds whether the plan is proposed, and of how much it is.

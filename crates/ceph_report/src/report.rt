@@ -490,14 +490,21 @@ const NOTHING: &str = "\nnothing is proposed: the plan gains less than is asked 
 /// The same where there is too little heat.
 const IDLE: &str = "\nnothing is proposed: there is less heat than --least-heat asks for\n";
 
+/// The same where no plan that is tried keeps within what is asked for.
+const NONE_WITHIN: &str =
+    "\nnothing is proposed: no plan that is tried keeps within --most-inodes, --leave and --mask\n";
+
 /// The last line of the report where nothing is proposed; empty where something is.
-fn nothing_text(is_proposed: bool, is_idle: bool) -> &'static str
-    ensures { result.now ≡ nothing_text is_proposed is_idle }
+fn nothing_text(facts: &Facts, is_proposed: bool) -> &'static str
+    ensures { result.now ≡ nothing_text facts.now is_proposed }
 {
-    match (is_proposed, is_idle) {
-        (true, _) => "",
-        (false, true) => IDLE,
-        (false, false) => NOTHING,
+    if is_proposed {
+        return "";
+    }
+    match (facts.is_idle, facts.is_within) {
+        (true, _) => IDLE,
+        (false, false) => NONE_WITHIN,
+        (false, true) => NOTHING,
     }
 }
 
@@ -537,6 +544,6 @@ pub fn make_report(alloc: Global, facts: &Facts, is_proposed: bool) -> Result<Ve
     let mut text = Vec::new(alloc);
     push_plan(&mut text, facts)?;
     push_left_out(&mut text, facts)?;
-    push_text(&mut text, nothing_text(is_proposed, facts.is_idle))?;
+    push_text(&mut text, nothing_text(facts, is_proposed))?;
     Ok(text)
 }

@@ -105,6 +105,7 @@ fn left(alloc: Global, directories: Vec<Directory>) -> Result<Vec<Directory>, Re
 pub(crate) const WANTED: Wanted = Wanted {
     parts: PartCount::Auto(1000),
     keep: 0,
+    most_inodes: u64::MAX,
     rests: false,
 };
 
@@ -117,6 +118,7 @@ pub(crate) fn proposed(
     let none = OwnPins {
         foreign: None,
         earlier: None,
+        is_left: false,
     };
     let own = vec![in alloc; none; rows.len()]?;
     if own.len() != rows.len() {

@@ -1,4 +1,5 @@
 pub mod Kept
+pub mod LeftRows
 pub mod Ours
 pub mod OwnLines
 pub mod Parents

@@ -24,11 +24,11 @@ holding-foreign : (directories : List Directory) (i : ℕ) → 0 < i → is_hold
 holding-foreign directories i later is =
     rw (ne_eqb i 0 (λ same. let none : ⊥ = omega (arith, later, same) in none)) (some_of (pin_at directories i) (is_fixed_at directories i) (now_at directories i) is)
 
-pub untouched : (directories : List Directory) (rows : List ProblemRow) (part rank : List ℕ) (own : List OwnPins) (n : ℕ) (rests : Bool) (found : List PinRow) (changes : List PinChange)
-    → n ≡ length directories → AreOwnPins directories (length directories) own → ArePinRows rows part rank own n rests found → AreUntouched found changes
+pub untouched : (directories : List Directory) (leave : List (List ℕ)) (rows : List ProblemRow) (part rank : List ℕ) (own : List OwnPins) (n : ℕ) (rests : Bool) (found : List PinRow) (changes : List PinChange)
+    → n ≡ length directories → AreOwnPins directories leave (length directories) own → ArePinRows rows part rank own n rests found → AreUntouched found changes
     → (i : ℕ) → 0 < i → i < length directories → is_holding directories i ≡ true → All (λ (change : PinChange). change.row ≢ i) changes
-untouched directories rows part rank own n rests found changes size own_is asked free i later inside holds = λ k d l same.
+untouched directories leave rows part rank own n rests found changes size own_is asked free i later inside holds = λ k d l same.
     let row : rule.foreign_at found i ≡ (own_at own i).foreign = ap (λ (one : PinRow). one.foreign) (asked.asked i (omega (arith, inside, size))) in
-    let pins : (own_at own i).foreign ≡ foreign_at directories i = ap (λ (one : OwnPins). one.foreign) (own_is.pins i inside) in
+    let pins : (own_at own i).foreign ≡ foreign_at directories i = (own_is.each i inside).foreign in
     let none : rule.foreign_at found i ≡ None = ap (rule.foreign_at found) (sym same) ∙ free k d l in
     holding-foreign directories i later holds (sym pins ∙ (sym row ∙ none))

@@ -27,6 +27,7 @@ option_rules =
     ∷ value_rule (codes "mask") [] ∷ value_rule (codes "own") [] ∷ value_rule (codes "check") []
     ∷ value_rule (codes "least-gain") (codes "5" ∷ []) ∷ value_rule (codes "least-heat") []
     ∷ value_rule (codes "least-by-inodes") (codes "0" ∷ []) ∷ value_rule (codes "keep") (codes "5" ∷ [])
+    ∷ value_rule (codes "most-inodes") [] ∷ value_rule (codes "leave") []
     ∷ value_rule (codes "mount") (codes "/mnt/cephfs" ∷ []) ∷ value_rule (codes "pins") []
     ∷ flag_rule (codes "subvolumes") ∷ value_rule (codes "svg") [] ∷ value_rule (codes "script") []
     ∷ flag_rule (codes "json") ∷ flag_rule (codes "paths0") ∷ []

@@ -1,5 +1,5 @@
 -- The options as they are read of the words, and what is planned by them.
-use Rattle.std.specs.Prelude.{◌≡◌, ◌*◌, ℕ, Bool, true, false, List, [], Option, Some, None, codes, is_some, length}
+use Rattle.std.specs.Prelude.{◌≡◌, ◌*◌, ◌-◌, ◌^◌, ℕ, Bool, true, false, List, [], Option, Some, None, codes, is_some, length}
 use Rattle.std.specs.Prelude.{not, Vec}
 use Rattle.std.specs.Prelude.{string_bytes}
 use Rattle.std.specs.Prelude.{if◌then◌else◌}
@@ -48,6 +48,10 @@ mask_named (Some text) = asked_mask text
 abbrev pub heat_named : Option (List ℕ) → Option ℕ
 heat_named text = option_map (λ digits. option_number digits * 1000) text
 
+-- a number of inodes, if one is named
+abbrev pub inodes_named : Option (List ℕ) → Option ℕ
+inodes_named text = option_map option_number text
+
 -- what a plan has to come to, with heat in thousandths
 abbrev pub least_named : List Row → Least
 least_named rows =
@@ -68,6 +72,8 @@ pub record AreRead (rows : List Row) (settings : PlanSettings) : Type 0 where
   pub parts : settings.parts
       ≡ parts_named (value_or rows (codes "parts") (codes "auto")) (value_or rows (codes "most-pins") (codes "10000"))
   pub keep : settings.keep ≡ option_number (value_or rows (codes "keep") (codes "5"))
+  pub most_inodes : settings.most_inodes ≡ inodes_named (first_of (codes "most-inodes") rows)
+  pub leave : option_map (λ text. text.now) settings.leave ≡ first_of (codes "leave") rows
   pub least : settings.least ≡ least_named rows
   pub mask : settings.mask ≡ mask_named (first_of (codes "mask") rows)
   pub mount : settings.mount.now ≡ value_or rows (codes "mount") (codes "/mnt/cephfs")
@@ -82,20 +88,29 @@ pub record AreRead (rows : List Row) (settings : PlanSettings) : Type 0 where
 
 -- the plan that is wanted by the settings. While the balancer is off, what has no pin stays where it is
 abbrev pub wanted_by : PlanSettings → Bool → Wanted
-wanted_by settings balances = record { parts = settings.parts; keep = settings.keep; rests = not balances }
+wanted_by settings balances =
+    record {
+      parts = settings.parts;
+      keep = settings.keep;
+      most_inodes = unwrap_or settings.most_inodes (2 ^ 64 - 1);
+      rests = not balances;
+    }
 
 -- what is written is that of a plan of what was collected: of its directories, by the settings, for the ranks of the
--- mask that is asked for or else of the cluster's own, with the list of pins where one is asked for, and with all that
--- has no pin staying where it is if the balancer is off
+-- mask that is asked for or else of the cluster's own, with the list of pins where one is asked for, with directories
+-- that are to be left only where a list of them is, and with all that has no pin staying where it is if the balancer is
+-- off
 pub record IsPlanWritten (settings : PlanSettings) (output : PlanOutput) : Type 0 where
   pub collected : Collected
   pub outcome : Outcome
   pub own : is_some collected.own ≡ is_some settings.own
+  pub leave : List (List ℕ)
+  pub none_left : is_some settings.leave ≡ false → leave ≡ []
   pub snapshot : IsSnapshot collected.snapshot
   pub ours : HasOurPins collected
   pub ranks : AreUsable settings.mask (option_map string_bytes collected.cluster.mask) collected.cluster outcome.ranks
-  pub of : IsOutcome collected.snapshot.directories.items collected.snapshot.spread.items settings.subvolumes
-      (wanted_by settings collected.balances) outcome
+  pub of : IsOutcome collected.snapshot.directories.items collected.snapshot.spread.items leave
+      settings.subvolumes (wanted_by settings collected.balances) outcome
   pub there : outcome.there ≡ collected.cluster.ranks
   pub active : outcome.active ≡ collected.cluster.active
   pub size : outcome.size ≡ collected.cluster.size

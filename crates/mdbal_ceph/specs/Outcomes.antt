@@ -1,5 +1,5 @@
 -- What the report's numbers are of.
-use Rattle.std.specs.Prelude.{◌≡◌, ◌≢◌, ◌<◌, ◌≤◌, ◌+◌, ◌^◌, ℕ, All, Bool, List, Option, false, length, min}
+use Rattle.std.specs.Prelude.{◌≡◌, ◌≢◌, ◌<◌, ◌≤◌, ◌+◌, ◌^◌, ℕ, All, Bool, IsTrue, List, Option, false, length, min}
 use Rattle.std.specs.Prelude.{slice_index, true}
 use Rattle.mds_types.specs.declared.limits.TheConstants.{DIR_LIMIT}
 use Rattle.mds_types.specs.declared.problem.ProblemRow.{ProblemRow}
@@ -9,7 +9,8 @@ use Rattle.ceph_distributed.specs.Spreads.{IsAdvised}
 use Rattle.ceph_snapshot.specs.declared.directory.Directory.{Directory}
 use Rattle.ceph_snapshot.specs.declared.held.Held.{Held}
 use Rattle.ceph_folding.specs.Folding.{AreUnitsLeft, IsFolded}
-use Rattle.ceph_snapshot.specs.Holding.{IsHeld, held_at, held_below, is_holding, most_heat}
+use Rattle.ceph_snapshot.specs.declared.held.Held.TheVariants.{Free}
+use Rattle.ceph_snapshot.specs.Holding.{IsHeld, held_at, held_below, is_holding, most_heat, now_at}
 use Rattle.ceph_snapshot.specs.Policies.{StillKeepUnpinnable, dir_path_at}
 use Rattle.ceph_snapshot.specs.Rows.{AreRowsOf, free_heat}
 use Rattle.ceph_plan.specs.Packing.{IsAsGreat, IsBoundOf}
@@ -20,6 +21,7 @@ use Rattle.ceph_plan.specs.Proposals.{IsProposal}
 use Rattle.ceph_report.specs.Amounts.{AreAmounts, cold_inodes, goal_at, heat_going, heat_now, inodes_from, inodes_to}
 use Rattle.ceph_report.specs.Told.{IsHottest}
 use Rattle.ceph_report.specs.declared.facts.HottestDirectory.{HottestDirectory}
+use Rattle.ceph_pins.specs.Left.{IsLeft}
 use Rattle.ceph_pins.specs.OwnPins.{AreOwnPins}
 use Rattle.ceph_pins.specs.Volumes.{is_unit}
 use Rattle.mdbal_ceph.specs.declared.outcome.Decision.{Decision}
@@ -35,26 +37,29 @@ pub record IsHeldHeat (directories : List Directory) (holds : List Held) (spread
 -- what is planned: the rows are the directories, each with its heat where nothing holds it and with none where
 -- something does; the plan is the one that is chosen of all that are weighed of
 -- these rows, with the held heat at its ranks
-pub record IsProposalOf (directories : List Directory) (holds : List Held) (pinned : List ℕ) (ranks : ℕ)
-    (wanted : Wanted) (proposal : Proposal) : Type 0 where
+pub record IsProposalOf (directories : List Directory) (holds : List Held) (pinned : List ℕ) (leave : List (List ℕ))
+    (ranks : ℕ) (wanted : Wanted) (proposal : Proposal) : Type 0 where
   pub rows : List ProblemRow
   pub own : List OwnPins
   pub rows_of : AreRowsOf directories holds (length directories) rows
-  pub own_pins : AreOwnPins directories (length directories) own
+  pub own_pins : AreOwnPins directories leave (length directories) own
   pub proposed : IsProposal ranks pinned rows wanted own proposal
 
--- what is decided for directories, with this heat by rank of what is spread. No pin changes where somebody else set
--- one, where a directory is spread, and where it may not be pinned
-pub record IsDecision (directories : List Directory) (spread : List ℕ) (ranks : ℕ) (wanted : Wanted)
-    (decision : Decision) : Type 0 where
+-- what is decided for directories, with this heat by rank of what is spread, where those of a list are to be left. No pin
+-- changes where somebody else set one, where a directory is spread, and where it may not be pinned
+pub record IsDecision (directories : List Directory) (spread : List ℕ) (leave : List (List ℕ)) (ranks : ℕ)
+    (wanted : Wanted) (decision : Decision) : Type 0 where
   pub size : length decision.holds.items ≡ length directories
   pub held : (i : ℕ) → i < length directories → IsHeld directories i (held_at decision.holds.items i)
   pub pinned : IsHeldHeat directories decision.holds.items spread decision.pinned.items
-  pub planned : IsProposalOf directories decision.holds.items decision.pinned.items ranks wanted decision.proposal
+  pub planned : IsProposalOf directories decision.holds.items decision.pinned.items leave ranks wanted decision.proposal
   pub untouched : (i : ℕ) → 0 < i → i < length directories → is_holding directories i ≡ true
       → All (λ change. change.row ≢ i) decision.proposal.changes.items
   pub goals : (i : ℕ) → i < length directories
       → slice_index decision.goals.items i ≡ goal_at decision.holds.items decision.proposal.rows.items i
+  pub left : IsTrue decision.proposal.is_within → (i : ℕ) → i < length directories
+      → IsLeft leave (dir_path_at directories i) → held_at decision.holds.items i ≡ Free
+      → slice_index decision.goals.items i ≡ now_at directories i
   pub now : AreAmounts decision.sums.now.items (λ r. slice_index spread r + heat_now directories r (length directories))
   pub into : AreAmounts decision.sums.into.items
       (λ r. inodes_to directories decision.holds.items decision.goals.items r (length directories))
@@ -100,12 +105,13 @@ abbrev pub AreUnits : Bool → List Directory → List Directory → Type 0
 AreUnits false collected units = units ≡ collected
 AreUnits true collected units = AreUnitsLeft collected units (λ i. is_unit (dir_path_at collected i))
 
--- what was collected of directories, with this heat by rank of what is spread, and what came of it: as many
+-- what was collected of directories, with this heat by rank of what is spread and those that are to be left, and what
+-- came of it: as many
 -- directories as the planner takes, all that are planned one by one where they are no more than that, with all their
 -- heat and inodes, each that may not be pinned among them, what is decided for these, and the hottest, the advice and
 -- the bound of all that were collected
-pub record IsOutcome (collected : List Directory) (spread : List ℕ) (subvolumes : Bool) (wanted : Wanted)
-    (outcome : Outcome) : Type 0 where
+pub record IsOutcome (collected : List Directory) (spread : List ℕ) (leave : List (List ℕ)) (subvolumes : Bool)
+    (wanted : Wanted) (outcome : Outcome) : Type 0 where
   pub units : List Directory
   pub each : AreUnits subvolumes collected units
   pub few : length outcome.directories.items ≡ min (length units) DIR_LIMIT
@@ -113,7 +119,7 @@ pub record IsOutcome (collected : List Directory) (spread : List ℕ) (subvolume
   pub folded : IsFolded units outcome.directories.items
   pub count : length outcome.directories.items + outcome.folded ≡ length collected
   pub unpinnable : StillKeepUnpinnable collected outcome.directories.items
-  pub decided : IsDecision outcome.directories.items spread outcome.ranks wanted outcome.decision
+  pub decided : IsDecision outcome.directories.items spread leave outcome.ranks wanted outcome.decision
   pub hottest : IsHottestOfAll collected outcome.hottest
   pub advice : IsAdviceOfAll collected outcome.size outcome.advice
   pub bound : IsBoundOfAll collected outcome.decision.pinned.items outcome.ranks outcome.bound

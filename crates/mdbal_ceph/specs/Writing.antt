@@ -92,6 +92,7 @@ pub record AreFacts (outcome : Outcome) (is_idle : Bool) (count : ℕ) (facts : 
   pub goals : facts.goals.now ≡ outcome.decision.goals.items
   pub standing : facts.standing ≡ count
   pub idle : facts.is_idle ≡ is_idle
+  pub within : facts.is_within ≡ outcome.decision.proposal.is_within
 
 -- how many pins of an earlier plan stay as they are
 abbrev pub standing_count : Outcome → ℕ
@@ -114,10 +115,12 @@ pub record IsTold (outcome : Outcome) (is_json is_proposed is_idle : Bool) (text
       (inverted outcome.decision.proposal.rows.items (proposed_changes outcome is_proposed)) is_proposed
       else report facts is_proposed)
 
--- the plan is proposed exactly where it comes to what is asked for; the report, or JSON, is that of the outcome; and
+-- the plan is proposed exactly where it comes to what is asked for, and keeps within what is wanted; the report, or JSON, is that of the outcome; and
 -- the files of the pins are there where they are asked for, with the changes that are proposed
 pub record IsWritten (settings : PlanSettings) (outcome : Outcome) (output : PlanOutput) : Type 0 where
-  pub proposed : IsTrue output.is_proposed ↔ IsWorthMoving (gain_of outcome) (least_for settings.least outcome.ranks)
+  pub proposed : IsTrue output.is_proposed
+      ↔ (IsWorthMoving (gain_of outcome) (least_for settings.least outcome.ranks)
+      × IsTrue outcome.decision.proposal.is_within)
   pub text : IsTold outcome settings.is_json output.is_proposed (is_idle settings.least outcome) output.text.items
   pub asked : is_some output.pins ≡ is_some settings.pins
   pub pins : IfSome output.pins (ArePinFiles settings outcome (proposed_changes outcome output.is_proposed))

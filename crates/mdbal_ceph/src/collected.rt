@@ -1,5 +1,5 @@
 //! Reads the files that `ceph/collect` wrote.
-ghost use Rattle.std.specs.Prelude.{◌≡◌, ◌<◌, [], IfOk, is_some};
+ghost use Rattle.std.specs.Prelude.{◌≡◌, ◌<◌, [], IfOk, false, is_some};
 ghost use Rattle.std.specs.Option.{option_map_or};
 ghost use Rattle.ceph_snapshot.specs.Snapshots.{IsSnapshot};
 ghost use Rattle.mdbal_ceph.specs.Collections.{HasOurPins};
@@ -10,7 +10,7 @@ use crate::progress::Progress;
 use anyhow::{Context, Error, bail};
 use ceph_dumps::{
     DumpError, FileSystem, FileSystemRanks, OwnPin, read_balancer, read_cluster, read_complete,
-    read_inodes, read_listing, read_loads, read_own_list, read_subtrees,
+    read_inodes, read_listing, read_loads, read_own_list, read_path_list, read_subtrees,
 };
 use ceph_snapshot::{Gathering, Mounted, Snapshot};
 use mds_types::limits::RANK_LIMIT;
@@ -184,6 +184,16 @@ fn own_pins<R: Files + AllocGlobal>(
     match path {
         Some(path) => Ok(Some(read_file(rt, path, read_own_list)?)),
         None => Ok(None),
+    }
+}
+
+/// The directories that are to be left where they are: those of a list, where there is one.
+pub fn read_left<R: Files + AllocGlobal>(rt: &R, path: Option<&str>) -> Result<Vec<Vec<u8>>, Error>
+    ensures { IfOk result (λ leave. is_some path.entry ≡ false → leave.items ≡ []) }
+{
+    match path {
+        Some(path) => read_file(rt, path, read_path_list),
+        None => Ok(Vec::new(rt.alloc())),
     }
 }
 

@@ -2,7 +2,7 @@
 ghost use Rattle.std.specs.Prelude.{IfOk};
 ghost use Rattle.mdbal_ceph.specs.Options.{IsChecked, IsPlanWritten};
 
-use crate::collected::{listed, read_collected};
+use crate::collected::{listed, read_collected, read_left};
 use crate::outcome::planned;
 use crate::progress::Progress;
 use crate::settings::PlanSettings;
@@ -59,8 +59,9 @@ pub fn carry_out<R: Files + AllocGlobal + Clock + Eprint>(
 {
     let mut progress = Progress::begin(rt);
     let collected = read_collected(rt, &mut progress, settings.folder, settings.own)?;
+    let leave = read_left(rt, settings.leave)?;
     progress.tell(rt, "planning");
-    let outcome = planned(rt.alloc(), settings, collected)?;
+    let outcome = planned(rt.alloc(), settings, collected, &leave)?;
     progress.tell(rt, "writing");
     let output = written(rt.alloc(), settings, &outcome)?;
     write_files(rt, settings, &output)?;

@@ -1,6 +1,7 @@
 //! Plans what was collected.
 ghost use Rattle.std.specs.Prelude.{◌≡◌, ◌≤◌, ◌+◌, IfOk, IsOkAnd, length, min, string_bytes};
 ghost use Rattle.std.specs.Option.{option_map};
+ghost use Rattle.ceph_dumps.specs.PathList.{path_bytes};
 ghost use Rattle.ceph_folding.specs.Folding.{IsFolded, StillKept};
 ghost use Rattle.ceph_snapshot.specs.Holding.{AreParentsFirst};
 ghost use Rattle.ceph_snapshot.specs.Snapshots.{IsSnapshot};
@@ -92,26 +93,28 @@ fn wanted_by(settings: &PlanSettings, balances: bool) -> Wanted
     Wanted {
         parts: settings.parts,
         keep: settings.keep,
+        most_inodes: settings.most_inodes.unwrap_or(u64::MAX),
         rests: !balances,
     }
 }
 
-/// Plans directories for these ranks, where `spread[r]` is the heat at rank r of what is spread.
+/// Plans directories for these ranks, where `spread[r]` is the heat at rank r of what is spread, and leaves some of them.
 fn decided(
     alloc: Global,
     wanted: Wanted,
     ranks: RankSet,
     directories: &[Directory],
     spread: &[u64],
+    leave: &[Vec<u8>],
 ) -> Result<Decision, Error>
     requires { length spread.now ≡ 64 }
-    ensures { IfOk result (IsDecision directories.now spread.now ranks wanted) }
+    ensures { IfOk result (IsDecision directories.now spread.now (path_bytes leave.now) ranks wanted) }
 {
     let holds = holds(alloc, directories)?;
     let held = holds.as_slice();
     let pinned = held_heat(alloc, directories, held, spread)?;
     let rows = rows_of(alloc, directories, held)?;
-    let own = own_pins(alloc, directories)?;
+    let own = own_pins(alloc, directories, leave)?;
     let proposal = propose(alloc, &rows, wanted, &pinned, ranks, &own)?;
     let goals = goals_of(alloc, held, &proposal.rows)?;
     let sums = sums_of(alloc, directories, held, &goals, spread)?;
@@ -167,15 +170,16 @@ fn collected_heats(alloc: Global, directories: &[Directory]) -> Result<Vec<u64>,
     free_heats(alloc, directories, &holds)
 }
 
-/// Plans what was collected.
+/// Plans what was collected, and leaves these directories where they are.
 pub fn planned(
     alloc: Global,
     settings: &PlanSettings,
     collected: Collected,
+    leave: &[Vec<u8>],
 ) -> Result<Outcome, Error>
     requires { IsSnapshot collected.snapshot }
     ensures outcome { IfOk result (IsOutcome collected.snapshot.directories.items collected.snapshot.spread.items
-        settings.now.subvolumes (wanted_by settings.now collected.balances)) }
+        (path_bytes leave.now) settings.now.subvolumes (wanted_by settings.now collected.balances)) }
     ensures ranks { IfOk result (λ outcome. AreUsable settings.now.mask
         (option_map string_bytes collected.cluster.mask) collected.cluster outcome.ranks) }
     ensures there { IfOk result (λ outcome. outcome.there ≡ collected.cluster.ranks) }
@@ -202,7 +206,7 @@ pub fn planned(
     let (directories, colder) = folded(alloc, units)?;
     let folded = others + colder;
     let wanted = wanted_by(settings, balances);
-    let decision = decided(alloc, wanted, ranks, &directories, &spread)?;
+    let decision = decided(alloc, wanted, ranks, &directories, &spread, leave)?;
     let bound = heats_bound(&heats, &decision.pinned, ranks);
     Ok(Outcome {
         file_system,

@@ -4,7 +4,7 @@ ghost use Rattle.std.specs.Option.{option_map};
 ghost use Rattle.clap.specs.Words.{app_of, first_of, found_of, rows_of, rule_of, with_rule};
 ghost use Rattle.mdbal_ceph.specs.CommandLine.{AreSettings, folder_rule, mdbal_ceph, option_rule};
 ghost use Rattle.mdbal_ceph.specs.CommandLine.{option_rules, plan_command, with_options};
-ghost use Rattle.mdbal_ceph.specs.Options.{AreRead, IsFlag, heat_named, least_named, mask_named, option_number};
+ghost use Rattle.mdbal_ceph.specs.Options.{AreRead, IsFlag, heat_named, inodes_named, least_named, mask_named, option_number};
 ghost use Rattle.mdbal_ceph.specs.Options.{parts_named, value_or};
 
 use crate::input::mask_named;
@@ -38,6 +38,10 @@ pub struct PlanSettings<'a> {
     pub parts: PartCount,
     /// By how many percent a load may pass the greatest so that a part stays where it is.
     pub keep: u8,
+    /// No more inodes than this are to move, where it is given.
+    pub most_inodes: Option<u64>,
+    /// The list of directories that are to be left where they are.
+    pub leave: Option<&'a str>,
     /// The ranks that may have a part; where there is none, those of the cluster's own mask.
     pub mask: Option<RankSet>,
     /// The list of pins that this program set before.
@@ -172,6 +176,18 @@ const OPTIONS: &[PlanOption] = &[
         default: Some("5"),
         value: Some("PERCENT"),
         help: "By how much the hottest rank may pass that of the coolest plan, so that fewer inodes move",
+    },
+    PlanOption {
+        name: "most-inodes",
+        default: None,
+        value: Some("N"),
+        help: "Propose the coolest plan of those that are tried that moves no more inodes",
+    },
+    PlanOption {
+        name: "leave",
+        default: None,
+        value: Some("FILE"),
+        help: "A list of directories, one a line: none of them moves, nor anything below or above them",
     },
     PlanOption {
         name: "mount",
@@ -349,6 +365,19 @@ fn heat_if_any(text: Option<&str>, refused: &'static str) -> Result<Option<u64>,
     }
 }
 
+/// The number of inodes that a text names, if there is one.
+fn inodes_if_any(text: Option<&str>) -> Result<Option<u64>, Refused>
+    ensures { IfOk result (λ inodes. inodes ≡ inodes_named (option_map (λ text. text.now) text.entry)) }
+{
+    let Some(text) = text else {
+        return Ok(None);
+    };
+    match text.parse::<u32>() {
+        Ok(inodes) => Ok(Some(u64::from(inodes))),
+        Err(_) => Err(Refused::Value("--most-inodes takes a whole number")),
+    }
+}
+
 /// What a plan has to come to.
 fn least_of(matches: &ArgMatches<'_>) -> Result<Least, Refused>
     ensures { IfOk result (λ least. least ≡ least_named (rows_of (found_of matches.now))) }
@@ -427,6 +456,8 @@ fn found<'a>(matches: &ArgMatches<'a>) -> Result<PlanSettings<'a>, Refused>
         folder: value_or(matches, "folder", "."),
         parts,
         keep,
+        most_inodes: inodes_if_any(value_of(matches, "most-inodes"))?,
+        leave: value_of(matches, "leave"),
         mask,
         own: value_of(matches, "own"),
         check: value_of(matches, "check"),

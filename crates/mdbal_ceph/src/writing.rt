@@ -121,6 +121,7 @@ fn facts_of<'a>(
         changes: outcome.decision.proposal.changes.len(),
         standing,
         is_idle,
+        is_within: outcome.decision.proposal.is_within,
     }
 }
 
@@ -218,7 +219,8 @@ pub fn written(
     ensures { IfOk result (IsWritten settings.now outcome.now) }
 {
     let (gain, least) = (gain_of(outcome), least_for(settings.least, outcome.ranks));
-    let (is_proposed, is_idle) = (is_worth_it(gain, least), gain.heat < least.heat);
+    let (is_worth, is_idle) = (is_worth_it(gain, least), gain.heat < least.heat);
+    let is_proposed = is_worth && outcome.decision.proposal.is_within;
     let directories = outcome.directories.as_slice();
     let stays = stays_of(alloc, directories)?;
     let is_json = settings.is_json;

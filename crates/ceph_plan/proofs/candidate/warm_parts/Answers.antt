@@ -1,7 +1,7 @@
 use Rattle.std.proofs.Common.{◌≡◌, ◌∙◌, ◌<◌, ℕ, Bool, true, List, ap, arith, length, length-set, refl, set, slice_index}
 use Rattle.std.proofs.lemmas.List.{get_or_read}
 use Rattle.mds_types.specs.declared.problem.ProblemRow.{ProblemRow}
-use Rattle.mds_types.specs.Problem.{heat_at, no_row, now_at, row_at}
+use Rattle.mds_types.specs.Problem.{heat_at, no_row, row_at}
 use Rattle.ceph_plan.proofs.Cold.{warm-new, warm-same}
 use Rattle.ceph_plan.proofs.candidate.warm_parts.Goals as goal
 use Rattle.ceph_plan.proofs.candidate.warm_parts.Goals.{then-row-gt0+then-leaves, else-row-gt0}

@@ -1,4 +1,4 @@
-use Rattle.std.proofs.Common.{◌≡◌, ◌∙◌, ℕ, List, ap, arith, length, slice_index}
+use Rattle.std.proofs.Common.{◌∙◌, ℕ, List, ap, arith, length, slice_index}
 use Rattle.mds_types.specs.declared.problem.ProblemRow.{ProblemRow}
 use Rattle.ceph_plan.specs.Packing.{greatest_of}
 use Rattle.ceph_plan.specs.Plans.{moved_inodes}

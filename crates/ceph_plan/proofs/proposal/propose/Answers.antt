@@ -45,5 +45,5 @@ returns-clause-proposal c =
     let inside : k < length candidates = subst (λ (xs : List Candidate). k < length xs) c.deref.ensures.value c.picked-at.ensures.inside in
     let there : slice_get candidates k ≡ Some taken = slice_get_read candidates (length candidates) k taken refl inside c.swap_remove-taken.ensures.value in
     proposed ranks c.args.pinned.now rows c.args.wanted own c.in_ok-plan.field-0.limit k c.in_ok-plan.field-0.plan candidates taken _ c.in_ok-plan.ensures.chosen c.in_ok-found.ensures.candidates
-    there (subst (λ (xs : List Candidate). IsPicked c.in_ok-plan.field-0.limit c.args.wanted.parts xs k) c.deref.ensures.value c.picked-at.ensures.picked) refl refl
-    (subst (λ (xs : List PinRow). AreChangesFor xs c.in_ok-changes.changes.items) c.deref-2.ensures.value c.in_ok-changes.ensures)
+    there (subst (λ (xs : List Candidate). IsPicked c.in_ok-plan.field-0.limit c.args.wanted xs k) c.deref.ensures.value c.picked-at.ensures.picked) refl refl
+    (subst (λ (xs : List PinRow). AreChangesFor xs c.in_ok-changes.changes.items) c.deref-2.ensures.value c.in_ok-changes.ensures) c.is_within-is_within.ensures

@@ -1,5 +1,6 @@
-use Rattle.std.proofs.Common.{◌≡◌, ◌<◌, ◌+◌, ℕ, List, length, min, slice_index, subst, ap, arith}
+use Rattle.std.proofs.Common.{◌≡◌, ◌∙◌, ◌<◌, ◌+◌, ℕ, List, length, min, slice_index, subst, ap, arith}
 use Rattle.mds_types.specs.declared.problem.ProblemRow.{ProblemRow}
+use Rattle.ceph_dumps.specs.PathList.{path_bytes}
 use Rattle.ceph_snapshot.specs.declared.directory.Directory.{Directory}
 use Rattle.ceph_snapshot.specs.declared.held.Held.{Held}
 use Rattle.ceph_snapshot.specs.Holding.{held_below, most_heat}
@@ -8,7 +9,8 @@ use Rattle.ceph_plan.specs.declared.choice.Wanted.{Wanted}
 use Rattle.ceph_plan.specs.declared.proposal.OwnPins.{OwnPins}
 use Rattle.ceph_plan.specs.declared.proposal.Proposal.{Proposal}
 use Rattle.ceph_plan.specs.Proposals.{IsProposal}
-use Rattle.ceph_report.specs.Amounts.{AreAmounts, cold_inodes, heat_going, inodes_from, inodes_to}
+use Rattle.ceph_report.specs.Amounts.{AreAmounts, cold_inodes, goal_at, heat_going, inodes_from, inodes_to}
+use Rattle.mdbal_ceph.proofs.LeftRows.{left_stays}
 use Rattle.mdbal_ceph.proofs.Parents.{parents_first}
 use Rattle.mdbal_ceph.proofs.Untouched.{untouched}
 use Rattle.mdbal_ceph.proofs.outcome.decided.Goals as goal
@@ -30,6 +32,9 @@ returns c =
     (subst (λ (heats : List ℕ). IsProposal c.args.ranks heats rows wanted c.deref-3.result.now proposal) c.deref-2.ensures.value
     (subst (λ (others : List ProblemRow). IsProposal c.args.ranks c.deref-2.result.now others wanted c.deref-3.result.now proposal) c.deref.ensures.value
     c.in_ok-proposal.ensures.proposal)) in
+    let leave : List (List ℕ) = path_bytes c.args.leave.now in
+    let goals_are : (i : ℕ) → i < n → slice_index c.in_ok-goals.goals.items i ≡ goal_at holds proposal.rows.items i =
+    λ i l. rw (held_is, c.deref-4.ensures.value) at (c.in_ok-goals.ensures.goals i (let inside : i < length c.deref-4.result.now = omega (arith, l, ap length c.deref-4.ensures.value, proposed.targets.size, rows_of.size) in inside)) in
     record {
       size = c.in_ok-holds.ensures.size;
       held = c.in_ok-holds.ensures.held (parents_first directories holds rows rows_of proposed.chosen.plan.forest);
@@ -45,9 +50,11 @@ returns c =
         own_pins = c.in_ok-own.ensures;
         proposed = proposed;
       };
-      untouched = untouched directories rows proposal.plan.part.items proposal.plan.packing.rank.items own (length rows) wanted.rests proposal.rows.items proposal.changes.items
+      untouched = untouched directories leave rows proposal.plan.part.items proposal.plan.packing.rank.items own (length rows) wanted.rests proposal.rows.items proposal.changes.items
           rows_of.size c.in_ok-own.ensures proposed.targets proposed.changes.untouched;
-      goals = λ i l. rw (held_is, c.deref-4.ensures.value) at (c.in_ok-goals.ensures.goals i (let inside : i < length c.deref-4.result.now = omega (arith, l, ap length c.deref-4.ensures.value, proposed.targets.size, rows_of.size) in inside));
+      goals = goals_are;
+      left = λ within i inside left free. goals_are i inside
+          ∙ left_stays directories leave holds rows own wanted proposal.plan proposal.rows.items rows_of c.in_ok-own.ensures proposed.targets (proposed.within.0 within) i inside left free;
       now = c.in_ok-sums.ensures.now;
       into =
           subst (λ (others : List Held). AreAmounts c.in_ok-sums.sums.into.items (λ r. inodes_to directories others c.in_ok-goals.goals.items r n)) held_is

@@ -1,5 +1,6 @@
 use Rattle.std.proofs.Common.{◌≡◌, ◌≤◌, ◌^◌, ℕ, List, arith, length, slice_index, subst, sym}
 use Rattle.mds_types.specs.Sums.{sum_below}
+use Rattle.ceph_dumps.specs.PathList.{path_bytes}
 use Rattle.ceph_snapshot.specs.declared.directory.Directory.{Directory}
 use Rattle.ceph_plan.specs.declared.choice.Wanted.{Wanted}
 use Rattle.ceph_plan.specs.Packing.{ArePlanRanks, IsAsGreat, IsBoundOf}
@@ -32,6 +33,7 @@ returns-clause-outcome c =
     let collected : List Directory = c.args.collected.snapshot.directories.items in
     let spread : List ℕ = c.args.collected.snapshot.spread.items in
     let heats : List ℕ = c.in_ok-heats.heats.items in
+    let leave : List (List ℕ) = path_bytes c.args.leave.now in
     let decision : Decision = c.in_ok-decision.decision in
     record {
       units = c.in_ok-units.units.items;
@@ -42,9 +44,9 @@ returns-clause-outcome c =
       count = omega (arith, c.in_ok-directories.ensures.count, c.in_ok-units.ensures.count);
       unpinnable = kept_through collected c.in_ok-units.units.items directories c.requires.kept c.in_ok-units.ensures.kept c.in_ok-directories.ensures.kept;
       decided =
-          subst (λ (wanted : Wanted). IsDecision directories spread c.in_ok-ranks.ranks wanted decision) c.wanted_by-wanted.ensures
-          (subst (λ (heats : List ℕ). IsDecision directories heats c.in_ok-ranks.ranks c.wanted_by-wanted.result decision) c.deref-7.ensures.value
-          (subst (λ (others : List Directory). IsDecision others c.deref-7.result.now c.in_ok-ranks.ranks c.wanted_by-wanted.result decision) c.deref-6.ensures.value c.in_ok-decision.ensures));
+          subst (λ (wanted : Wanted). IsDecision directories spread leave c.in_ok-ranks.ranks wanted decision) c.wanted_by-wanted.ensures
+          (subst (λ (heats : List ℕ). IsDecision directories heats leave c.in_ok-ranks.ranks c.wanted_by-wanted.result decision) c.deref-7.ensures.value
+          (subst (λ (others : List Directory). IsDecision others c.deref-7.result.now leave c.in_ok-ranks.ranks c.wanted_by-wanted.result decision) c.deref-6.ensures.value c.in_ok-decision.ensures));
       hottest = record {
         heats = heats;
         are = subst (λ (those : List Directory). AreFreeHeats those heats) c.deref.ensures.value c.in_ok-heats.ensures;

@@ -1,0 +1,37 @@
+use Rattle.std.proofs.Common.{◌≡◌, ◌∙◌, ◌<◌, ◌++◌, ◌∷◌, [], All, Bor, ℕ, List, ap, arith, length, subst, sym, take}
+use Rattle.std.proofs.Math.Seq.{take-length}
+use Rattle.std.specs.List.{flat_map}
+use Rattle.std.proofs.lemmas.List.{take_more, flat_map_more}
+use Rattle.std.proofs.lemmas.List.Elements.{All-map, All-more}
+use Rattle.std.proofs.lemmas.List.Folds.{flat_map-map}
+use Rattle.ceph_dumps.specs.PathList.{IsPathLine, line_paths}
+use Rattle.ceph_dumps.proofs.path_list.read_path_list.Goals as goal
+
+pub loop-at-preserved : goal.loop-at-preserved
+loop-at-preserved c =
+    let lines : List (Bor (List ℕ)) = c.in_ok-lines.lines.items in
+    let at : ℕ = c.loop-at.at in
+    let line : Bor (List ℕ) = c.index.result.now in
+    let inside : at < length lines = omega (arith, c.loop-at-test.true, c.len-at-end.ensures) in
+    record {
+      lines = All-more (λ (one : Bor (List ℕ)). IsPathLine one.now) lines at line inside c.loop-at.invariant.lines
+          (subst (λ (one : Bor (List ℕ)). IsPathLine one.now) c.index.ensures c.in_ok-push_path.ensures.line);
+      paths = c.in_ok-push_path.ensures.paths
+          ∙ (ap (λ before. before ++ line_paths line.now) c.loop-at.invariant.paths
+          ∙ (flat_map_more (λ (one : Bor (List ℕ)). line_paths one.now) [] (take at lines) line
+          ∙ ap (flat_map (λ (one : Bor (List ℕ)). line_paths one.now)) (sym (take_more lines at line inside ∙ ap (λ (one : Bor (List ℕ)). take at lines ++ one ∷ []) (sym c.index.ensures)))));
+    }
+
+pub returns : goal.returns
+returns c =
+    let lines : List (Bor (List ℕ)) = c.in_ok-lines.lines.items in
+    let end : take c.loop-at.at lines ≡ lines =
+    ap (λ (n : ℕ). take n lines) (let same : c.loop-at.at ≡ length lines = omega (arith, c.loop-at-test.false, c.loop-at.auto.at-end, c.len-at-end.ensures) in same) ∙ take-length lines in
+    record {
+      lines = subst (All IsPathLine) c.in_ok-lines.ensures
+          (All-map IsPathLine (λ (line : Bor (List ℕ)). line.now) lines (subst (All (λ (line : Bor (List ℕ)). IsPathLine line.now)) end c.loop-at.invariant.lines));
+      each = c.loop-at.invariant.paths
+          ∙ (ap (flat_map (λ (line : Bor (List ℕ)). line_paths line.now)) end
+          ∙ (sym (flat_map-map line_paths (λ (line : Bor (List ℕ)). line.now) lines)
+          ∙ ap (flat_map line_paths) c.in_ok-lines.ensures));
+    }
