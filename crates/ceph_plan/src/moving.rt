@@ -33,7 +33,7 @@ pub(crate) struct Ground<'a> {
     pub limit: u64,
     /// Which directories go first.
     pub first: First,
-    /// No more directories go, each with all that is below it.
+    /// No more directories get a pin that have none of ours. Each goes with all that is below it.
     pub most: usize,
     /// No more inodes go.
     pub most_inodes: u64,
@@ -41,10 +41,11 @@ pub(crate) struct Ground<'a> {
     pub own: &'a [OwnPins],
 }
 
-/// How many directories, and how many inodes, may still go.
+/// How many directories went, and how many pins may still be new, and how many inodes may still go.
 #[derive(Clone, Copy)]
 struct Left {
-    directories: usize,
+    went: usize,
+    pins: usize,
     inodes: u64,
 }
 
@@ -182,6 +183,14 @@ fn is_left(own: &[OwnPins], row: usize) -> bool {
     }
 }
 
+/// Whether a row has a pin of ours, so that it can go without a new one.
+fn has_pin(own: &[OwnPins], row: usize) -> bool {
+    match own.get(row) {
+        Some(known) => known.earlier.is_some(),
+        None => false,
+    }
+}
+
 /// The rows with heat that may leave ranks above the limit, those that go first last.
 fn leaving(
     alloc: Global,
@@ -303,9 +312,11 @@ fn moved_once(
     for one in order.iter().rev() {
         let row = one.part.0 as usize;
         let inodes = read(&sums.inodes, row);
-        let may_go = left.directories > 0 && inodes <= left.inodes;
+        let is_pinned = has_pin(ground.own, row);
+        let may_go = (is_pinned || left.pins > 0) && inodes <= left.inodes;
         if may_go && send(ground, goals, &mut sums, &mut to, row) {
-            left.directories -= 1;
+            left.went = left.went.saturating_add(1);
+            left.pins = left.pins.saturating_sub(usize::from(!is_pinned));
             left.inodes -= inodes;
         }
     }
@@ -324,12 +335,13 @@ pub(crate) fn moved_from(
 {
     let mut goals = start.to_vec(alloc)?;
     let mut left = Left {
-        directories: ground.most,
+        went: 0,
+        pins: ground.most,
         inodes: ground.most_inodes,
     };
     for _ in 0..MOST_ROUNDS {
         let rest = moved_once(alloc, ground, pinned, &mut goals, left)?;
-        if rest.directories == left.directories {
+        if rest.went == left.went {
             return Ok(goals);
         }
         left = rest;
