@@ -132,7 +132,8 @@ fn traffic_named<
 
 /// Serves the requests of each rank in order and carries out orders in eight rounds, both at once, each rank's requests
 /// by one thread and its exports by another. `scripts[k]`, `shares[k]` and `readers[k]` are those of rank k's thread of
-/// requests. It asks each request at the rank that its reader finds at that moment, and at rank 0 where it finds none.
+/// requests. It asks each request at the rank that its reader finds at that moment, and at rank 0 where the map has the
+/// directory nowhere. Where the reader finds the map closed, what is published is looked up under the lock.
 ///
 /// `gate` is called around each request, and `rounds` around each turn of a rank in a round, as `serve_phase` and
 /// `export_phase` do. Hits are deposited, and what isn't logged is aborted, as these do.
