@@ -1,10 +1,11 @@
-//! Times phases of the ranks' threads and the same work on one thread.
+//! Times phases of the ranks' threads, and requests on one thread.
 //!
 //! `serve RANKS HITS` serves 10,000 requests of HITS hits, which the ranks share evenly, rank k on its directory k;
-//! with no hits there is no request. `export RANKS` moves directories from each rank to the next, 65,536 in all. Each
-//! prints a line for a thread a rank and a line for one thread: nanoseconds of wall time, the least of several runs.
-//! `both RANKS HITS` serves such requests, and moves a second directory of each rank to the next: a line for both at
-//! once, and one for a phase of requests and then one of exports, all in threads.
+//! with no hits there is no request. It prints a line for a thread a rank and a line for one thread: nanoseconds of
+//! wall time, the least of several runs. `export RANKS` moves directories from each rank to the next, 65,536 in all,
+//! and prints the line for a thread a rank. `both RANKS HITS` serves such requests, and moves a second directory of
+//! each rank to the next: a line for both at once, and one for a phase of requests and then one of exports, all in
+//! threads.
 
 mod opened;
 mod timing;
@@ -45,11 +46,12 @@ fn work_of(word: &str, hits: u32) -> Option<Work> {
     }
 }
 
-// The names of the two times.
-fn names_of(work: Work) -> (&'static str, &'static str) {
+// The names of the times, each with whether it is of all ranks at once.
+fn names_of(work: Work) -> &'static [(&'static str, bool)] {
     match work {
-        Work::Both(_) => ("at_once", "in_turn"),
-        _ => ("threads", "one_thread"),
+        Work::Serve(_) => &[("threads", true), ("one_thread", false)],
+        Work::Export => &[("threads", true)],
+        Work::Both(_) => &[("at_once", true), ("in_turn", false)],
     }
 }
 
@@ -67,9 +69,12 @@ pub fn run<R: Threads + Wait + Clock + Sync, W: Write>(
     if ranks < 1 || ranks > 64 {
         return Ok(());
     }
-    let (first, second) = names_of(work);
-    for (name, at_once) in [(first, true), (second, false)] {
-        print(out, name, least(rt, alloc, ranks, Phase { work, at_once }))?;
+    for (name, at_once) in names_of(work) {
+        let phase = Phase {
+            work,
+            at_once: *at_once,
+        };
+        print(out, name, least(rt, alloc, ranks, phase))?;
     }
     Ok(())
 }

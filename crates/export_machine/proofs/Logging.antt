@@ -1,6 +1,5 @@
 -- Which event logs an export.
-use Rattle.std.proofs.Common.{◌≡◌, ℕ, true, false, Option, Some, None, Ok, Err, Result, refl, sym}
-use Rattle.std.specs.Result.{is_ok}
+use Rattle.std.proofs.Common.{◌≡◌, ℕ, false, Option, Some, None, refl, sym}
 use Rattle.std.specs.List.{slice_get}
 use Rattle.export_protocol.specs.declared.message.Message.{Message}
 use Rattle.export_protocol.specs.declared.step_error.StepError.{StepError}
@@ -11,7 +10,6 @@ use Rattle.export_protocol.specs.Authority.{authority}
 use Rattle.export_protocol.specs.Step.{refusal}
 use Rattle.export_protocol.specs.declared.event.Event.TheVariants.{Deliver}
 use Rattle.export_protocol.specs.Entries.{Entry, entry, unless_refused, accepted_entry, delivered_entry, entered_by, is_log, logs_export}
-use Rattle.export_machine.specs.Kept.{cause_of}
 
 module _ (w : World) where
   by_not : (o : Option ℕ) (e : JournalEntry) → is_log (Some (record { rank = 0; entry = e })) ≡ false → is_log (entered_by o e) ≡ false
@@ -21,10 +19,6 @@ module _ (w : World) where
   unless_not : (r : Option StepError) (o : Option Entry) → is_log o ≡ false → false ≡ is_log (unless_refused r o)
   unless_not None o h = sym h
   unless_not (Some f) o h = refl
-
-  pub refused_not : (e : Event) (f : StepError) → refusal w e ≡ Some f → false ≡ logs_export w e
-  unfolding logs_export entry
-  refused_not e f h = rw h refl
 
   pub delivered_logs : (k : ℕ) (m : Message) → refusal w (Deliver k) ≡ None → slice_get w.sent k ≡ Some m → logs_export w (Deliver k) ≡ is_log (delivered_entry w (Some m))
   unfolding logs_export entry
@@ -39,11 +33,3 @@ module _ (w : World) where
       go (Event.Made p) l = by_not (authority w p) (JournalEntry.Made _) refl
       go (Event.Gone d) l = by_not (authority w d) (JournalEntry.Gone d) refl
       go _ l = refl
-
-pub ok_none : {A : Type 0} (r : Result A StepError) (o : Option StepError) → cause_of r ≡ o → true ≡ is_ok r → o ≡ None
-ok_none (Ok a) o e h = sym e
-ok_none (Err f) o e h = absurd (cc)
-
-pub err_some : {A : Type 0} (r : Result A StepError) (o : Option StepError) → cause_of r ≡ o → false ≡ is_ok r → (f : StepError) × (o ≡ Some f)
-err_some (Ok a) o e h = absurd (cc)
-err_some (Err f) o e h = (f, sym e)

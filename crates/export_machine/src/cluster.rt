@@ -171,15 +171,14 @@ impl Cluster {
         self.check_causes(event)
     }
 
-    /// Whether this event, if it comes next, is the log entry of an export: from then on the export can only go on.
+    /// Whether this event, which no cause refuses, is the log entry of an export: from then on the export can only go
+    /// on.
     pub fn logs_export(&self, event: &Event) -> bool
+        requires accepted { refusal self.now.world (event.now) ≡ None }
         ensures { result ≡ logs_export self.now.world (event.now) }
     {
         match event {
-            Event::Deliver(message) => {
-                self.can_apply(event).is_ok()
-                    && self.records.logs(self.records.sent[*message as usize])
-            }
+            Event::Deliver(message) => self.records.logs(self.records.sent[*message as usize]),
             _ => false,
         }
     }

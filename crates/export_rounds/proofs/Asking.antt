@@ -1,5 +1,5 @@
 -- The states of orders while a board goes on.
-use Rattle.std.proofs.Common.{◌≡◌, ◌≤◌, ◌<◌, ◌+◌, ℕ, zero, suc, Bool, cond, false, take, List, [], ◌∷◌, ◌++◌, length, Some, slice_get, get_or, refl, sym, ap, ◌∙◌, subst, arith, append-nil, append_assoc}
+use Rattle.std.proofs.Common.{◌≡◌, ◌≤◌, ◌<◌, ◌+◌, ℕ, zero, suc, Bool, cond, take, List, [], ◌∷◌, ◌++◌, length, Some, slice_get, get_or, refl, sym, ap, ◌∙◌, subst, arith, append-nil, append_assoc}
 use mathlib.Core.List.{IsPrefix}
 use Rattle.mds_board.specs.declared.entry.Entry.{Entry}
 use Rattle.std.proofs.Math.ListN.{set}
@@ -10,7 +10,7 @@ use Rattle.mds_types.specs.declared.order.Order.{Order}
 use Rattle.mds_board.specs.History.{World}
 use Rattle.export_rounds.specs.declared.standing.Standing.{Standing}
 use Rattle.export_rounds.specs.declared.standing.Standing.TheVariants.{Waiting, Started, Refused}
-use Rattle.export_rounds.specs.Asked.{AreAsked, IsAsked, is_waiting}
+use Rattle.export_rounds.specs.Asked.{AreAsked, IsAsked}
 use Rattle.board_state.specs.declared.board_error.BoardError.{BoardError}
 use Rattle.board_state.specs.declared.change.Change.{Change}
 use Rattle.export_rounds.specs.Further.{IsFurther}
@@ -20,7 +20,6 @@ use Rattle.board_state.specs.declared.change.Change.TheVariants.{Step}
 use Rattle.board_state.specs.Steps.{IsDue}
 use Rattle.export_rounds.specs.Outcomes.{IsRefused, IsStarted}
 use Rattle.export_rounds.specs.Pairs.{AreEach}
-use Rattle.export_rounds.proofs.Going.{replay_both, stays}
 use Rattle.export_rounds.proofs.Ordering.{get_first, get_last, no_fewer, orders_stay}
 
 pub each_maps : {A B : Type 0} (R S : A → B → Type 0) → ((a : A) (b : B) → R a b → S a b) → (xs : List A) (ys : List B) → AreEach R xs ys → AreEach S xs ys
@@ -45,19 +44,8 @@ follows xs ys zs p q = (p.0 ++ q.0, sym (append_assoc xs p.0 q.0) ∙ (ap (λ (l
 pub met_later : (first : World) (log longer : List Entry) (change : Change) (e : BoardError) → IsPrefix log longer → IsMet first log change e → IsMet first longer change e
 met_later first log longer change e more h = record { board = h.board; since = h.since; due = h.due; kept = follows h.board.history log longer h.kept more }
 
-pub since_joins : (first old new : World) → IsSince first old → IsFurther old new → IsSince first new
-since_joins first old new h k = record {
-  entries = h.entries ++ k.more;
-  history = k.history ∙ (ap (λ es. es ++ k.more) h.history ∙ append_assoc first.history h.entries k.more);
-  replay = replay_both first.state h.entries old.state k.more new.state h.replay k.replay;
-  orders = let few = no_fewer old new k in let more = h.orders in omega arith;
-}
-
 pub further_since : (first now : World) → IsFurther first now → IsSince first now
 further_since first now h = record { entries = h.more; history = h.history; replay = h.replay; orders = no_fewer first now h }
-
-pub itself_since : (w : World) → IsSince w w
-itself_since w = further_since w w (stays w)
 
 -- The history goes on, and so do the exports.
 pub record Grows (now new : World) : Type 0 where
@@ -134,15 +122,6 @@ begun_later first now (o ∷ orders) (s ∷ standings) (suc k) x d near h is = b
 begun_later first now [] [] k x d near h is = absurd (omega arith)
 begun_later first now [] (s ∷ standings) k x d near h is = absurd h
 begun_later first now (o ∷ orders) [] k x d near h is = absurd h
-
--- one more doesn't wait
-pub settled_more : (xs : List Standing) (i : ℕ) (s : Standing) → i < length xs → ((k : ℕ) (d : Standing) → k < i → is_waiting (get_or xs k d) ≡ false)
-    → is_waiting s ≡ false → (k : ℕ) (d : Standing) → k < i + 1 → is_waiting (get_or (set xs i s) k d) ≡ false
-settled_more [] i s l h w k d n = absurd (omega arith)
-settled_more (x ∷ xs) zero s l h w zero d n = w
-settled_more (x ∷ xs) zero s l h w (suc k) d n = absurd (omega arith)
-settled_more (x ∷ xs) (suc i) s l h w zero d n = h zero d (omega arith)
-settled_more (x ∷ xs) (suc i) s l h w (suc k) d n = settled_more xs i s (omega arith) (λ j e m. h (suc j) e (omega arith)) w k d (omega arith)
 
 -- an order that is in another state
 pub one_changed : (first now new : World) (orders : List Order) (standings : List Standing) (k : ℕ) (s d : Standing) → IsFurther now new → k < length standings

@@ -19,11 +19,9 @@ use Rattle.board_state.specs.Steps.{is_inner, spelled}
 use Rattle.board_state.proofs.Mapping.{after_step}
 use Rattle.mds_board.specs.declared.entry.Entry.{Entry}
 use Rattle.mds_board.specs.History.{World, IsAnswer, IsReplay, recorded}
-use Rattle.export_rounds.specs.Adding.{IsOfPhase}
 use Rattle.export_rounds.specs.Further.{IsFurther, IsInner}
-use Rattle.export_rounds.specs.Asked.{StartsNone, is_later}
-use Rattle.export_rounds.proofs.Adding.{adds_more, answer_added, nothing_added, publish_added}
-use Rattle.export_rounds.proofs.Going.{head_has, joins, publishes, stays, steps, tail_have}
+use Rattle.export_rounds.specs.Asked.{is_later}
+use Rattle.export_rounds.proofs.Going.{head_has, tail_have}
 
 -- the order that an event starts
 abbrev pub started_by : Event → List Order
@@ -102,12 +100,6 @@ start_orders old new order h =
 
 -- no export is started
 
-pub stays_none : (w : World) → StartsNone w w
-stays_none w = record { further = stays w; orders = refl; events = λ before. nothing_added before w }
-
-pub joins_none : (old between new : World) → StartsNone old between → StartsNone between new → StartsNone old new
-joins_none old between new h k = record { further = joins old between new h.further k.further; orders = k.orders ∙ h.orders; events = λ before. adds_more before old between new (h.events before) (k.events before) }
-
 none_by : (e : Event) → is_later e ≡ true → started_by e ≡ []
 none_by (Start from to dirs) h = absurd (cc)
 none_by (Made p) h = refl
@@ -133,14 +125,6 @@ pub answer_orders : (old : World) (e : Event) (result : Result Reply BoardError)
 answer_orders old e (Ok r) new inner later h = later_orders old new e inner later h.3
 answer_orders old e (Err error) new inner later h = ap (λ (w : World). w.state.cluster.orders) h.1
 
-pub steps_none : (old : World) (e : Event) (result : Result Reply BoardError) (new : World) → is_inner e ≡ true → is_later e ≡ true
-    → ((before : ℕ) → IsOfPhase before (Step e)) → IsAnswer old (Step e) (spelled answer.Reply result) new → StartsNone old new
-steps_none old e result new inner later is h = record {
-  further = steps old e result new inner h;
-  orders = answer_orders old e result new inner later h;
-  events = λ before. answer_added before old e result new (is before) h;
-}
-
-pub publishes_none : (done : Bool) (old new : World) → MatchBool done (new ≡ record old { published = old.state.map }) (new ≡ old) → StartsNone old new
-publishes_none true old new h = record { further = publishes true old new h; orders = ap (λ (w : World). w.state.cluster.orders) h; events = λ before. publish_added before true old new h }
-publishes_none false old new h = record { further = publishes false old new h; orders = ap (λ (w : World). w.state.cluster.orders) h; events = λ before. publish_added before false old new h }
+pub publish_orders : (done : Bool) (old new : World) → MatchBool done (new ≡ record old { published = old.state.map }) (new ≡ old) → new.state.cluster.orders ≡ old.state.cluster.orders
+publish_orders true old new h = ap (λ (w : World). w.state.cluster.orders) h
+publish_orders false old new h = ap (λ (w : World). w.state.cluster.orders) h

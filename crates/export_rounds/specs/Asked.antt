@@ -1,13 +1,11 @@
 -- The states of orders in a phase.
-use Rattle.std.specs.Prelude.{◌≡◌, ◌<◌, ℕ, Bool, true, false, List, length, slice_index_or, if◌then◌else◌}
+use Rattle.std.specs.Prelude.{◌≡◌, ℕ, Bool, true, false, List, if◌then◌else◌}
 use Rattle.mds_types.specs.declared.order.Order.{Order}
 use Rattle.mds_board.specs.History.{World}
 use Rattle.export_rounds.specs.declared.standing.Standing.{Standing}
 use Rattle.export_rounds.specs.declared.standing.Standing.TheVariants.{Waiting, Started, Refused}
 use Rattle.export_protocol.specs.declared.event.Event.{Event}
 use Rattle.export_protocol.specs.declared.event.Event.TheVariants.{Start}
-use Rattle.export_rounds.specs.Adding.{GoesOnBy}
-use Rattle.export_rounds.specs.Further.{IsFurther}
 use Rattle.export_rounds.specs.Outcomes.{IsStarted, IsRefused}
 use Rattle.export_rounds.specs.Pairs.{AreEach}
 
@@ -24,10 +22,6 @@ abbrev pub is_waiting : Standing → Bool
 is_waiting (Waiting order) = true
 is_waiting _ = false
 
--- none waits any more
-abbrev pub AreSettled : List Standing → Type 0
-AreSettled standings = (k : ℕ) (d : Standing) → k < length standings → is_waiting (slice_index_or standings k d) ≡ false
-
 -- an export was started for it
 abbrev pub is_begun : Standing → Bool
 is_begun (Started x) = true
@@ -37,12 +31,6 @@ is_begun _ = false
 abbrev pub is_later : Event → Bool
 is_later (Start from to dirs) = false
 is_later _ = true
-
--- It goes on by events of exports, and none is started or aborted.
-pub record StartsNone (old new : World) : Type 0 where
-  pub further : IsFurther old new
-  pub orders : new.state.cluster.orders ≡ old.state.cluster.orders
-  pub events : (before : ℕ) → GoesOnBy before old new
 
 abbrev pub ones : Bool → ℕ
 ones b = if b then 1 else 0

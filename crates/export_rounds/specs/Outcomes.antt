@@ -11,7 +11,7 @@ use Rattle.board_state.specs.declared.board_error.BoardError.{BoardError}
 use Rattle.board_state.specs.declared.change.Change.TheVariants.{Step}
 use Rattle.mds_board.specs.History.{World}
 use Rattle.export_rounds.specs.declared.outcome.Outcome.{Outcome}
-use Rattle.export_rounds.specs.declared.outcome.Outcome.TheVariants.{Done, Open, Refused}
+use Rattle.export_rounds.specs.declared.outcome.Outcome.TheVariants.{Done, NoThread, Open, Refused}
 use Rattle.export_rounds.specs.declared.outcome.Outcome.TheVariants as outcome
 use Rattle.export_rounds.specs.Moments.{IsMet}
 use Rattle.export_rounds.specs.Pairs.{AreEach}
@@ -36,8 +36,10 @@ IsTold old new order told =
     (x : ℕ) × IsStarted old new order x × (told
     ≡ word x (exporter_of new.state.cluster x) (importer_of new.state.cluster x))
 
--- What became of an order is why it was refused, or the state of its export.
+-- What became of an order is why it was refused, or the state of its export. Nothing is
+-- said of one for which there was no thread.
 abbrev pub IsOutcome : World → World → Order → Outcome → Type 0
+IsOutcome old new order NoThread = Unit {0}
 IsOutcome old new order (Refused error) = IsRefused old new order error
 IsOutcome old new order told = IsTold old new order told
 
@@ -48,6 +50,7 @@ AreOutcomes old new orders outcomes = AreEach (IsOutcome old new) orders outcome
 -- an export was started for it
 abbrev pub is_started : Outcome → Bool
 is_started (Refused error) = false
+is_started NoThread = false
 is_started _ = true
 
 -- No other exports were started.

@@ -1,47 +1,19 @@
 //! The end of a phase.
-ghost use Rattle.std.specs.Prelude.{◌≡◌, ◌<◌, ◌≤◌, List, [], count_by, false, true, length, vec_capacity};
+ghost use Rattle.std.specs.Prelude.{◌≡◌, ◌<◌, ◌≤◌, ◌↔◌, List, [], count_by, true, length, vec_capacity};
 ghost use Rattle.export_protocol.specs.Authority.{exporter_of, importer_of};
 ghost use Rattle.mds_board.specs.History.{World};
 ghost use Rattle.mds_types.specs.declared.order.Order.{Order as TheOrder};
-ghost use Rattle.export_rounds.specs.Adding.{GoesOnBy};
-ghost use Rattle.export_rounds.specs.Asked.{AreAsked, AreSettled, IsAsked, is_begun, is_waiting};
-ghost use Rattle.export_rounds.specs.Further.{IsFurther};
+ghost use Rattle.export_rounds.specs.declared.outcome.Outcome.TheVariants as told;
+ghost use Rattle.export_rounds.specs.Asked.{AreAsked, IsAsked, is_begun, is_waiting};
 ghost use Rattle.export_rounds.specs.Outcomes.{AreOutcomes, IsOutcome, is_started, word};
 
-use crate::looks::is_before_log;
 use crate::outcome::Outcome;
 use crate::standing::Standing;
-use crate::stepping::try_abort;
-use authority_map::Publisher;
 use export_machine::Cluster;
 use export_protocol::{ExporterState, ImporterState};
-use mds_board::Board;
-use naming::Naming;
-use std::alloc::Global;
-
-/// Aborts the exports of the phase that aren't logged.
-pub(crate) fn abort_rest<J: Naming, M: Publisher<J>>(
-    board: &mut Board<J, M>,
-    alloc: Global,
-    standings: &[Standing],
-)
-    ensures further { IsFurther board.old board.new }
-    ensures orders { board.new.state.cluster.orders ≡ board.old.state.cluster.orders }
-    ensures events { (first : World) (orders : List TheOrder) → AreAsked first board.old orders standings.now
-        → GoesOnBy (length first.state.cluster.orders) board.old board.new }
-{
-    for standing in standings {
-        if let Standing::Started(export) = standing {
-            if is_before_log(board.cluster(), *export) {
-                try_abort(board, alloc, *export);
-            }
-        }
-    }
-}
 
 /// Adds what became of orders, where there is room for it.
-pub(crate) fn tell(cluster: &Cluster, standings: &[Standing], outcomes: &mut Vec<Outcome>)
-    requires settled { AreSettled standings.now }
+pub fn tell(cluster: &Cluster, standings: &[Standing], outcomes: &mut Vec<Outcome>)
     requires room { length standings.now ≤ vec_capacity outcomes.old }
     requires none { outcomes.old.items ≡ [] }
     ensures told { (first now : World) (orders : List TheOrder) → now.state.cluster ≡ cluster.now.world
@@ -53,15 +25,15 @@ pub(crate) fn tell(cluster: &Cluster, standings: &[Standing], outcomes: &mut Vec
     }
 }
 
-/// What became of an order that doesn't wait.
+/// What became of an order. One that still waits was taken up by no thread.
 pub fn outcome(cluster: &Cluster, standing: &Standing) -> Outcome
-    requires settled { is_waiting standing.now ≡ false }
     ensures told { (first now : World) (order : TheOrder) → now.state.cluster ≡ cluster.now.world
         → IsAsked first now order standing.now → IsOutcome first now order result }
     ensures counted { is_started result ≡ is_begun standing.now }
+    ensures untaken { (result ≡ told.NoThread) ↔ (is_waiting standing.now ≡ true) }
 {
     match standing {
-        Standing::Waiting(_) => unreachable!(),
+        Standing::Waiting(_) => Outcome::NoThread,
         Standing::Refused(error) => Outcome::Refused(*error),
         Standing::Started(export) => outcome_of(cluster, *export),
     }

@@ -13,4 +13,6 @@ pub enum Outcome {
     Open(u32),
     /// The export wasn't started, for this cause.
     Refused(BoardError),
+    /// The export wasn't started, as the system gave no thread for the exporter.
+    NoThread,
 }

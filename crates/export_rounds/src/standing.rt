@@ -1,6 +1,4 @@
 //! The state of an order.
-ghost use Rattle.std.specs.Prelude.{◌≡◌};
-ghost use Rattle.export_rounds.specs.Asked as asked;
 
 use board_state::BoardError;
 use mds_types::Order;
@@ -14,13 +12,4 @@ pub enum Standing {
     Started(u32),
     /// It was refused for this cause.
     Refused(BoardError),
-}
-
-impl Standing {
-    /// Whether its exporter hasn't taken it up.
-    pub fn is_waiting(&self) -> bool
-        ensures { result ≡ asked.is_waiting self.now }
-    {
-        matches!(self, Standing::Waiting(_))
-    }
 }

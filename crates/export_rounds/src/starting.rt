@@ -3,11 +3,10 @@ ghost use Rattle.std.specs.Prelude.{◌≡◌, ◌+◌, ℕ, List, count_by, fal
 ghost use Rattle.mds_board.specs.History.{World};
 ghost use Rattle.mds_types.specs.declared.order.Order.{Order as TheOrder};
 ghost use Rattle.export_rounds.specs.Adding.{GoesOnBy};
-ghost use Rattle.export_rounds.specs.Asked.{AreAsked, AreSettled, IsAsked, is_begun, is_waiting, ones};
+ghost use Rattle.export_rounds.specs.Asked.{AreAsked, IsAsked, is_begun, is_waiting, ones};
 ghost use Rattle.export_rounds.specs.Further.{IsFurther};
 ghost use Rattle.export_rounds.specs.Moments.{IsSince};
 
-use crate::desk::Desk;
 use crate::standing::Standing;
 use crate::stepping::start;
 use authority_map::Publisher;
@@ -30,34 +29,6 @@ pub fn waiting(alloc: Global, orders: &[Order]) -> Result<Vec<Standing>, AllocEr
     Ok(standings)
 }
 
-/// Starts the orders on a rank's desk that wait, and lays their exports there.
-pub(crate) fn start_at<J: Naming, M: Publisher<J>>(
-    board: &mut Board<J, M>,
-    alloc: Global,
-    standings: &mut Vec<Standing>,
-    desk: &mut Desk,
-)
-    ensures further { IsFurther board.old board.new }
-    ensures events { (before : ℕ) → GoesOnBy before board.old board.new }
-    ensures asked { (first : World) (orders : List TheOrder) → IsSince first board.old
-        → AreAsked first board.old orders standings.old.items → AreAsked first board.new orders standings.new.items }
-    ensures counted { length board.new.state.cluster.orders + count_by is_begun standings.old.items
-        ≡ length board.old.state.cluster.orders + count_by is_begun standings.new.items }
-{
-    for number in desk.orders.iter() {
-        let started = settle_at(board, alloc, standings, *number);
-        lay(&mut desk.exports, started);
-    }
-    desk.orders.clear();
-}
-
-// Puts an export on a desk, if there is one. One that finds no place is aborted at the end of the phase.
-fn lay(exports: &mut Vec<u32>, started: Option<u32>) {
-    if let Some(export) = started {
-        let _ = exports.push(export);
-    }
-}
-
 /// Starts the order of this number if it waits, and returns its export.
 #[tactic(auto, using(crate::proofs::Going::stays, crate::proofs::Adding::nothing_added))]
 pub fn settle_at<J: Naming, M: Publisher<J>>(
@@ -75,25 +46,6 @@ pub fn settle_at<J: Naming, M: Publisher<J>>(
 {
     let standing = standings.get_mut(number)?;
     settle(board, alloc, standing)
-}
-
-/// Starts the orders that still wait: those whose exporter is no active rank, so that each is refused.
-pub(crate) fn settle_rest<J: Naming, M: Publisher<J>>(
-    board: &mut Board<J, M>,
-    alloc: Global,
-    standings: &mut Vec<Standing>,
-)
-    ensures further { IsFurther board.old board.new }
-    ensures events { (before : ℕ) → GoesOnBy before board.old board.new }
-    ensures asked { (first : World) (orders : List TheOrder) → IsSince first board.old
-        → AreAsked first board.old orders standings.old.items → AreAsked first board.new orders standings.new.items }
-    ensures counted { length board.new.state.cluster.orders + count_by is_begun standings.old.items
-        ≡ length board.old.state.cluster.orders + count_by is_begun standings.new.items }
-    ensures settled { AreSettled standings.new.items }
-{
-    for standing in standings.iter_mut() {
-        let _ = settle(board, alloc, standing);
-    }
 }
 
 // Starts an order if it waits, and returns its export.

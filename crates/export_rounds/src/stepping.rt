@@ -1,9 +1,8 @@
 //! Single steps on a board.
-ghost use Rattle.std.specs.Prelude.{◌≡◌, ◌≤◌, ◌++◌, ◌∷◌, [], ℕ, length, true, IfOk, IfErr, OnErr};
+ghost use Rattle.std.specs.Prelude.{◌≡◌, ◌++◌, ◌∷◌, [], ℕ, length, IfOk, IfErr, OnErr};
 ghost use Rattle.board_state.specs.declared.change.Change.TheVariants.{Step};
-ghost use Rattle.board_state.specs.Steps.{IsDue, is_inner};
-ghost use Rattle.export_rounds.specs.Adding.{GoesOnBy, IsOfPhase};
-ghost use Rattle.export_rounds.specs.Asked.{StartsNone, is_later};
+ghost use Rattle.board_state.specs.Steps.{IsDue};
+ghost use Rattle.export_rounds.specs.Adding.{GoesOnBy};
 ghost use Rattle.export_rounds.specs.Further.{IsFurther};
 
 use authority_map::Publisher;
@@ -13,40 +12,6 @@ use mds_board::Board;
 use mds_types::Order;
 use naming::Naming;
 use std::alloc::Global;
-
-/// An event by which exports go on, and whether it was accepted. A refused one is passed over.
-pub(crate) fn try_step<J: Naming, M: Publisher<J>>(
-    board: &mut Board<J, M>,
-    alloc: Global,
-    event: Event,
-) -> bool
-    requires inner { is_inner event ≡ true }
-    requires later { is_later event ≡ true }
-    requires of_phase { (before : ℕ) → IsOfPhase before (Step event) }
-    ensures { StartsNone board.old board.new }
-{
-    board.step(alloc, event).is_ok()
-}
-
-/// Aborts an export, unless that is refused.
-pub(crate) fn try_abort<J: Naming, M: Publisher<J>>(
-    board: &mut Board<J, M>,
-    alloc: Global,
-    export: u32,
-)
-    ensures further { IsFurther board.old board.new }
-    ensures orders { board.new.state.cluster.orders ≡ board.old.state.cluster.orders }
-    ensures events { (before : ℕ) → before ≤ export → GoesOnBy before board.old board.new }
-{
-    let _ = board.step(alloc, Event::Abort(export));
-}
-
-/// Publishes the map, if memory suffices.
-pub(crate) fn try_publish<J: Naming, M: Publisher<J>>(board: &mut Board<J, M>)
-    ensures { StartsNone board.old board.new }
-{
-    let _ = board.publish();
-}
 
 /// Starts an export, and returns its number.
 pub(crate) fn start<J: Naming, M: Publisher<J>>(

@@ -3,20 +3,19 @@ ghost use Rattle.std.specs.Prelude.{◌≡◌, ◌≤◌, [], count_by, length, 
 ghost use Rattle.export_rounds.specs.Adding.{GoesOnBy};
 ghost use Rattle.export_rounds.specs.Asked.{AreAsked, is_begun};
 ghost use Rattle.export_rounds.specs.Further.{IsFurther};
-ghost use Rattle.export_threads.specs.Carrying.{AreAll, AreTold};
+ghost use Rattle.export_rounds.specs.Outcomes.{AreAll, AreOutcomes};
 
 use crate::cell::{ExportPhase, Exporting};
-use crate::order_outcome::OrderOutcome;
 use crate::place::Place;
-use crate::telling::tell;
 use crate::turns::Rounds;
 use crate::under_way::UnderWay;
 use authority_map::Publisher;
 use export_protocol::Event;
+use export_rounds::closing::tell;
 use export_rounds::desk::set_up;
 use export_rounds::looks::is_before_log;
 use export_rounds::starting::waiting;
-use export_rounds::{Desk, ExportSide, Gate, Standing, Unsettled};
+use export_rounds::{Desk, ExportSide, Gate, Outcome, Standing, Unsettled};
 use mds_board::Board;
 use mds_types::Order;
 use naming::Naming;
@@ -37,7 +36,7 @@ pub struct Places {
 #[derive(Drop)]
 pub struct Prepared {
     /// Room for the outcomes.
-    pub outcomes: Vec<OrderOutcome>,
+    pub outcomes: Vec<Outcome>,
     /// The orders, of which each waits.
     pub standings: Vec<Standing>,
     /// The ranks.
@@ -156,7 +155,7 @@ fn carry_out_named<
     gate: &G,
     orders: &[Order],
     prepared: Prepared,
-) -> (Board<J, M>, Vec<OrderOutcome>)
+) -> (Board<J, M>, Vec<Outcome>)
     requires board { board ≡ K.before }
     requires orders { orders.now ≡ K.orders }
     requires asked { AreAsked board board orders.now prepared.standings.items }
@@ -164,7 +163,7 @@ fn carry_out_named<
     requires room { (prepared.outcomes.items ≡ []) × (length orders.now ≤ vec_capacity prepared.outcomes) }
     ensures further { IsFurther board result.0 }
     ensures events { GoesOnBy (length board.state.cluster.orders) board result.0 }
-    ensures outcomes { AreTold board result.0 orders.now result.1.items }
+    ensures outcomes { AreOutcomes board result.0 orders.now result.1.items }
     ensures all { AreAll board result.0 result.1.items }
 {
     let Prepared {
@@ -194,10 +193,10 @@ pub fn export_phase<
     board: Board<J, M>,
     gate: &G,
     orders: &[Order],
-) -> (Board<J, M>, Result<Vec<OrderOutcome>, AllocError>)
+) -> (Board<J, M>, Result<Vec<Outcome>, AllocError>)
     ensures further { IsFurther board result.0 }
     ensures events { GoesOnBy (length board.state.cluster.orders) board result.0 }
-    ensures outcomes { IfOk result.1 (λ outcomes. AreTold board result.0 orders.now outcomes.items) }
+    ensures outcomes { IfOk result.1 (λ outcomes. AreOutcomes board result.0 orders.now outcomes.items) }
     ensures all { IfOk result.1 (λ outcomes. AreAll board result.0 outcomes.items) }
     ensures unchanged { OnErr result.1 (result.0 ≡ board) }
 {
@@ -229,10 +228,10 @@ pub fn export_phase_from<
     gate: &G,
     orders: &[Order],
     unsettled: &mut Unsettled,
-) -> (Board<J, M>, Result<Vec<OrderOutcome>, AllocError>)
+) -> (Board<J, M>, Result<Vec<Outcome>, AllocError>)
     ensures further { IsFurther board result.0 }
     ensures events { GoesOnBy (length board.state.cluster.orders) board result.0 }
-    ensures outcomes { IfOk result.1 (λ outcomes. AreTold board result.0 orders.now outcomes.items) }
+    ensures outcomes { IfOk result.1 (λ outcomes. AreOutcomes board result.0 orders.now outcomes.items) }
     ensures all { IfOk result.1 (λ outcomes. AreAll board result.0 outcomes.items) }
     ensures unchanged { OnErr result.1 (result.0 ≡ board) }
 {

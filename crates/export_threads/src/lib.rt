@@ -6,13 +6,10 @@
 
 mod cell;
 pub mod exporting;
-pub mod order_outcome;
 mod place;
-pub mod telling;
 mod turn;
 mod turns;
 mod under_way;
 
 pub use export_rounds::{Gate, OpenGate, Outcome, Unsettled};
 pub use exporting::{Places, Prepared, carry_out, export_phase, export_phase_from, prepare};
-pub use order_outcome::OrderOutcome;

@@ -164,6 +164,17 @@ pub publish_kept : (done : Bool) (old new : World) → MatchBool done (new ≡ r
 publish_kept true old new h = ap (λ (w : World). w.history) h
 publish_kept false old new h = ap (λ (w : World). w.history) h
 
+-- what goes on without exports goes on as with them
+pub went_by_all : (exports : Bool) (old new : World) → WentOnBy exports old new → WentOnBy true old new
+went_by_all true old new h = h
+went_by_all false old new h = record {
+  kept = h.kept;
+  alone = λ k d l. inl (h.alone k d l);
+  replay = h.replay;
+  same_book = h.same_book;
+  same_map = inl h.same_map;
+}
+
 -- the first board
 pub begins : (exports : Bool) (first : World) (orders : List Order) (standings : List Standing) → AreAsked first first orders standings → count_by is_begun standings ≡ 0
     → IsMapAfter exports first first → IsOnTheWay exports first orders first standings 0

@@ -1,5 +1,7 @@
 -- What a phase does to a board: requests begin and end and hits are deposited, and in some phases exports go on.
-use Rattle.std.specs.Prelude.{◌≡◌, ◌≤◌, ◌+◌, ◌⊎◌, ℕ, Bool, true, false, List, length, count_by, take, drop, All}
+use Rattle.std.specs.Prelude.{◌≡◌, ◌≤◌, ◌+◌, ◌⊎◌, ℕ, Bool, true, false, Option, List, length, count_by, take, drop, All}
+use mathlib.Core.List.{IsPrefix}
+use Rattle.authority_map.specs.Operations.{rank_after}
 use Rattle.export_protocol.specs.declared.event.Event.TheVariants.{Begin, End}
 use Rattle.board_state.specs.declared.change.Change.{Change}
 use Rattle.board_state.specs.declared.change.Change.TheVariants.{Deposit, Step}
@@ -44,6 +46,13 @@ pub record WentOnBy (exports : Bool) (old new : World) : Type 0 where
 -- replay. No map was published.
 abbrev pub WentOn : World → World → Type 0
 WentOn old new = WentOnBy false old new
+
+-- In what a board of a phase had published, the directory had this rank, or none. The log begins with its history.
+pub record WasPublished (first : World) (log : List Entry) (dir : ℕ) (found : Option ℕ) : Type 0 where
+  pub board : World
+  pub went : WentOnBy true first board
+  pub kept : IsPrefix board.history log
+  pub named : found ≡ rank_after board.published dir
 
 -- A board on the way of a phase with these orders: it went on, each order is in the state that is kept, no other
 -- exports were started, and only tickets below `next` were given.

@@ -9,7 +9,7 @@ ghost use Rattle.export_rounds.specs.Moments.{IsMet};
 ghost use Rattle.mds_board.specs.History.{IsAnswer};
 ghost use Rattle.mds_board.specs.Promises.{IsKept};
 ghost use Rattle.phased_board.specs.Begun.{IsBegun};
-ghost use Rattle.phased_board.specs.Going.{IsOnTheWay, WentOnBy};
+ghost use Rattle.phased_board.specs.Going.{IsOnTheWay, WasPublished, WentOnBy};
 ghost use Rattle.seen_log.specs.Numbers.{AreApart};
 ghost use mathlib.Core.List.{IsPrefix};
 
@@ -200,6 +200,17 @@ impl<J: Naming, M: Publisher<J>, K: Phase> Phased<J, M, K> {
             seen: self.log.seen(),
             tickets: self.tickets.none(),
         }
+    }
+
+    /// The rank of a directory in all that is published of the map. The thread has then seen the board's history.
+    pub fn rank_published(&mut self, known: &mut Known<K>, dir: Dir) -> Option<Rank>
+        ensures found { WasPublished K.before known.new.seen dir result }
+        ensures seen { IsPrefix known.old.seen known.new.seen }
+        ensures tickets { known.new.tickets ≡ known.old.tickets }
+        ensures same { self.new ≡ self.old }
+    {
+        self.log.show(&mut known.seen);
+        self.board.rank_published(dir)
     }
 
     /// The board's history goes on from what a thread has seen. It does nothing.

@@ -10,11 +10,11 @@ use Rattle.rank_threads.specs.declared.work.Work.{Work}
 use Rattle.rank_threads.specs.declared.work.WorkAnswer.{WorkAnswer}
 use Rattle.rank_threads.specs.declared.work.WorkError.{WorkError}
 use Rattle.rank_threads.specs.declared.work.WorkError.TheVariants as error
-use Rattle.export_rounds.proofs.Asking.{met_later}
+use Rattle.export_rounds.proofs.Asking.{follows, met_later}
 use Rattle.phased_board.proofs.Later.{begun_later}
 use Rattle.rank_threads.specs.Answered.{AreAnswered, IsAnswered, IsDepositTold, IsRankAnswered, IsReply}
 use Rattle.rank_threads.specs.Asking.{AreServed}
-use Rattle.rank_threads.specs.Ways.{Hand, Way, hands_of}
+use Rattle.rank_threads.specs.Ways.{At, ByMap, Hand, IsAskedAt, IsPublishedAt, Way, hands_of}
 
 reply_later : (before : World) (log longer : List Entry) (rank dir : ℕ) (ticket : Option ℕ) (refused : Option WorkError) → IsPrefix log longer
     → IsReply before log rank dir ticket refused → IsReply before longer rank dir ticket refused
@@ -24,9 +24,18 @@ reply_later before log longer rank dir None (Some (error.Share e)) more h = h
 reply_later before log longer rank dir None (Some error.NoThread) more h = h
 reply_later before log longer rank dir None None more h = h
 
+published_later : (before : World) (log longer : List Entry) (dir asked : ℕ) → IsPrefix log longer → IsPublishedAt before log dir asked → IsPublishedAt before longer dir asked
+published_later before log longer dir asked more h =
+    (h.0, record { board = h.1.board; went = h.1.went; kept = follows h.1.board.history log longer h.1.kept more; named = h.1.named }, h.2)
+
+pub asked_longer : (before : World) (log longer : List Entry) (old new : Way) (dir asked : ℕ) → IsPrefix log longer → IsAskedAt before log old new dir asked → IsAskedAt before longer old new dir asked
+asked_longer before log longer (At rank) new dir asked more h = h
+asked_longer before log longer (ByMap old) new dir asked more (inl h) = inl h
+asked_longer before log longer (ByMap old) new dir asked more (inr h) = inr (published_later before log longer dir asked more h)
+
 answered_later : (before : World) (log longer : List Entry) (old new : Way) (work : Work) (a : WorkAnswer) → IsPrefix log longer
     → IsAnswered before log old new work a → IsAnswered before longer old new work a
-answered_later before log longer old new work a more h = (h.0, h.1, reply_later before log longer h.0 work.dir a.ticket a.refused more h.2)
+answered_later before log longer old new work a more h = (h.0, asked_longer before log longer old new work.dir h.0 more h.1, reply_later before log longer h.0 work.dir a.ticket a.refused more h.2)
 
 pub each_later : (before : World) (log longer : List Entry) (old new : Way) (works : List Work) (answers : List WorkAnswer) → IsPrefix log longer
     → AllZip (IsAnswered before log old new) works answers → AllZip (IsAnswered before longer old new) works answers

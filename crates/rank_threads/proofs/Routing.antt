@@ -1,8 +1,10 @@
 -- The rank that a request is asked at, while the thread's way to find ranks goes on.
-use Rattle.std.proofs.Common.{◌≡◌, ℕ, ◌+◌, zero, suc, List, [], ◌∷◌, ◌++◌, length, Result, refl, sym, ap, ◌∙◌, subst, inl, inr, append-nil, append_assoc, arith}
+use Rattle.std.proofs.Common.{◌≡◌, ◌≢◌, ℕ, ◌+◌, zero, suc, List, [], ◌∷◌, ◌++◌, length, Option, Some, None, Result, refl, sym, ap, ◌∙◌, subst, inl, inr, append-nil, append_assoc, arith}
 use Rattle.std.specs.List.{AllZip}
 use mathlib.Core.List.{IsPrefix}
+use Rattle.authority_map.specs.Answer.{found_of}
 use Rattle.authority_map.specs.Operations.{Operation}
+use Rattle.authority_map.specs.declared.found.Found.TheVariants as Found
 use Rattle.heat_ledger.specs.Ledger.{ShareData}
 use Rattle.mds_board.specs.declared.entry.Entry.{Entry}
 use Rattle.mds_board.specs.History.{World}
@@ -11,7 +13,7 @@ use Rattle.rank_threads.specs.declared.work.WorkAnswer.{WorkAnswer}
 use Rattle.board_state.specs.declared.board_error.BoardError.{BoardError}
 use Rattle.rank_threads.specs.Answered.{AreAnswered, IsAnswered}
 use Rattle.rank_threads.specs.Asking.{AreServed}
-use Rattle.rank_threads.specs.Ways.{At, ByMap, Hand, IsAskedAt, HoldsAsMuch, Way, hands_of, own_ranks}
+use Rattle.rank_threads.specs.Ways.{At, ByMap, Hand, HoldsAsMuch, IsAskedAt, IsByMap, IsFoundAt, IsPublishedAt, Way, hands_of, own_ranks, rank_or_zero}
 
 follows : (xs ys zs : List Operation) → IsPrefix xs ys → IsPrefix ys zs → IsPrefix xs zs
 follows xs ys zs p q = (p.0 ++ q.0, sym (append_assoc xs p.0 q.0) ∙ (ap (λ (l : List Operation). l ++ q.0) p.1 ∙ q.1))
@@ -28,28 +30,47 @@ held_further (At r) (ByMap mid) new h k = absurd h
 held_further (ByMap old) (At s) new h k = absurd h
 held_further (ByMap old) (ByMap mid) (At t) h k = absurd k
 
--- asked earlier
-asked_later : (old mid new : Way) (dir asked : ℕ) → HoldsAsMuch mid new → IsAskedAt old mid dir asked → IsAskedAt old new dir asked
-asked_later (At r) (At s) (At t) dir asked k h = h
-asked_later (ByMap old) (ByMap mid) (ByMap new) dir asked k (inl first) = inl first
-asked_later (ByMap old) (ByMap mid) (ByMap new) dir asked k (inr h) = inr (h.0, h.1, follows h.0 mid new h.2 k, h.3)
-asked_later (At r) (At s) (ByMap new) dir asked k h = absurd k
-asked_later (At r) (ByMap mid) new dir asked k h = absurd h
-asked_later (ByMap old) (At s) new dir asked k h = absurd h
-asked_later (ByMap old) (ByMap mid) (At t) dir asked k h = absurd k
+-- found earlier
+found_later : (old mid new : Way) (dir found : ℕ) → HoldsAsMuch mid new → IsFoundAt old mid dir found → IsFoundAt old new dir found
+found_later (At r) (At s) (At t) dir found k h = h
+found_later (ByMap old) (ByMap mid) (ByMap new) dir found k h = (h.0, h.1, follows h.0 mid new h.2 k, h.3)
+found_later (At r) (At s) (ByMap new) dir found k h = absurd k
+found_later (At r) (ByMap mid) new dir found k h = absurd h
+found_later (ByMap old) (At s) new dir found k h = absurd h
+found_later (ByMap old) (ByMap mid) (At t) dir found k h = absurd k
 
--- asked by a thread that goes on from here
-asked_since : (old mid new : Way) (dir asked : ℕ) → HoldsAsMuch old mid → IsAskedAt mid new dir asked → IsAskedAt old new dir asked
-asked_since (At r) (At s) (At t) dir asked k h = h ∙ k
-asked_since (ByMap old) (ByMap mid) (ByMap new) dir asked k (inl first) = inl first
-asked_since (ByMap old) (ByMap mid) (ByMap new) dir asked k (inr h) = inr (h.0, follows old mid h.0 k h.1, h.2, h.3)
-asked_since (At r) (At s) (ByMap new) dir asked k h = absurd h
-asked_since (At r) (ByMap mid) new dir asked k h = absurd k
-asked_since (ByMap old) (At s) new dir asked k h = absurd k
-asked_since (ByMap old) (ByMap mid) (At t) dir asked k h = absurd h
+asked_later : (before : World) (log : List Entry) (old mid new : Way) (dir asked : ℕ) → HoldsAsMuch mid new → IsAskedAt before log old mid dir asked → IsAskedAt before log old new dir asked
+asked_later before log (At r) mid new dir asked k h = found_later (At r) mid new dir asked k h
+asked_later before log (ByMap old) mid new dir asked k (inl h) = inl (found_later (ByMap old) mid new dir asked k h)
+asked_later before log (ByMap old) mid new dir asked k (inr h) = inr h
+
+-- found by a thread that goes on from here
+found_since : (old mid new : Way) (dir found : ℕ) → HoldsAsMuch old mid → IsFoundAt mid new dir found → IsFoundAt old new dir found
+found_since (At r) (At s) (At t) dir found k h = h ∙ k
+found_since (ByMap old) (ByMap mid) (ByMap new) dir found k h = (h.0, follows old mid h.0 k h.1, h.2, h.3)
+found_since (At r) (At s) (ByMap new) dir found k h = absurd h
+found_since (At r) (ByMap mid) new dir found k h = absurd k
+found_since (ByMap old) (At s) new dir found k h = absurd k
+found_since (ByMap old) (ByMap mid) (At t) dir found k h = absurd h
+
+asked_since : (before : World) (log : List Entry) (old mid new : Way) (dir asked : ℕ) → HoldsAsMuch old mid → IsAskedAt before log mid new dir asked → IsAskedAt before log old new dir asked
+asked_since before log (At r) (At s) new dir asked k h = found_since (At r) (At s) new dir asked k h
+asked_since before log (ByMap old) (ByMap mid) new dir asked k (inl h) = inl (found_since (ByMap old) (ByMap mid) new dir asked k h)
+asked_since before log (ByMap old) (ByMap mid) new dir asked k (inr h) = inr h
+asked_since before log (At r) (ByMap mid) new dir asked k h = absurd k
+asked_since before log (ByMap old) (At s) new dir asked k h = absurd k
+
+-- asked where it was found, or where a board of the phase had published it
+pub asked_found : (before : World) (log : List Entry) (old new : Way) (dir asked : ℕ) → IsFoundAt old new dir asked → IsAskedAt before log old new dir asked
+asked_found before log (At r) new dir asked h = h
+asked_found before log (ByMap old) new dir asked h = inl h
+
+pub asked_published : (before : World) (log : List Entry) (old new : Way) (dir asked : ℕ) → IsByMap old → IsPublishedAt before log dir asked → IsAskedAt before log old new dir asked
+asked_published before log (At r) new dir asked is h = absurd is
+asked_published before log (ByMap old) new dir asked is h = inr h
 
 pub one_since : (before : World) (log : List Entry) (old mid new : Way) (w : Work) (a : WorkAnswer) → HoldsAsMuch old mid → IsAnswered before log mid new w a → IsAnswered before log old new w a
-one_since before log old mid new w a k h = (h.0, asked_since old mid new w.dir h.0 k h.1, h.2)
+one_since before log old mid new w a k h = (h.0, asked_since before log old mid new w.dir h.0 k h.1, h.2)
 
 pub each_held : (before : World) (log : List Entry) (old mid new : Way) (works : List Work) (answers : List WorkAnswer) → HoldsAsMuch mid new
     → AllZip (IsAnswered before log old mid) works answers → AllZip (IsAnswered before log old new) works answers
@@ -57,7 +78,23 @@ each_held before log old mid new [] [] k h = tt
 each_held before log old mid new [] (a ∷ answers) k h = absurd h
 each_held before log old mid new (w ∷ works) [] k h = absurd h
 each_held before log old mid new (w ∷ works) (a ∷ answers) k h =
-    ((h.0.0, asked_later old mid new w.dir h.0.0 k h.0.1, h.0.2), each_held before log old mid new works answers k h.1)
+    ((h.0.0, asked_later before log old mid new w.dir h.0.0 k h.0.1, h.0.2), each_held before log old mid new works answers k h.1)
+
+-- what a reader finds
+
+same_rank : (rank : Option ℕ) (r : ℕ) → Found.Rank r ≡ found_of rank → r ≡ rank_or_zero rank
+same_rank None r h = absurd (cc)
+same_rank (Some s) r h = cc
+
+no_rank : (rank : Option ℕ) → Found.NoDir ≡ found_of rank → 0 ≡ rank_or_zero rank
+no_rank None h = refl
+no_rank (Some s) h = absurd (cc)
+
+pub rank_found : (rank : Option ℕ) (r : ℕ) → (Found.Rank r ≢ Found.Closed → Found.Rank r ≡ found_of rank) → r ≡ rank_or_zero rank
+rank_found rank r h = same_rank rank r (h (λ e. absurd (cc)))
+
+pub none_found : (rank : Option ℕ) → (Found.NoDir ≢ Found.Closed → Found.NoDir ≡ found_of rank) → 0 ≡ rank_or_zero rank
+none_found rank h = no_rank rank (h (λ e. absurd (cc)))
 
 -- ranks that ask at their own numbers do so afterwards
 

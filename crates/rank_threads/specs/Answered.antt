@@ -29,7 +29,8 @@ IsReply before log rank dir None None = ⊥
 -- the answer is what the board said to the request, asked at this rank
 abbrev pub IsAnswered : World → List Entry → Way → Way → Work → WorkAnswer → Type 0
 IsAnswered before log old new work answer =
-    (asked : ℕ) × IsAskedAt old new work.dir asked × IsReply before log asked work.dir answer.ticket answer.refused
+    (asked : ℕ) × IsAskedAt before log old new work.dir asked
+    × IsReply before log asked work.dir answer.ticket answer.refused
 
 -- The board answered each request of a rank, or there was no thread for it, which is the answer to each.
 abbrev pub IsRankAnswered : World → List Entry → Way → Way → List Work → List WorkAnswer → Type 0

@@ -1,6 +1,6 @@
 //! At which rank a thread asks its requests.
-ghost use Rattle.std.specs.Prelude.{◌≡◌};
-ghost use Rattle.rank_threads.specs.Ways.{At, ByMap, IsAskedAt, HoldsAsMuch, Way};
+ghost use Rattle.std.specs.Prelude.{◌≡◌, IfSome, IsNone};
+ghost use Rattle.rank_threads.specs.Ways.{At, ByMap, HoldsAsMuch, IsByMap, IsFoundAt, Way, rank_or_zero};
 
 use authority_map::{Found, MapReader};
 use mds_types::{Dir, Rank};
@@ -10,9 +10,10 @@ use naming::Naming;
 pub trait Route: Drop {
     ghost way: { Self → Way };
 
-    /// The rank at which a request on the directory is asked now.
-    fn rank_for(&mut self, dir: Dir) -> Rank
-        ensures asked { IsAskedAt (way self.old) (way self.new) dir result }
+    /// The rank at which a request on the directory is asked now, or `None` where a reader finds the map closed.
+    fn rank_for(&mut self, dir: Dir) -> Option<Rank>
+        ensures found { IfSome result (λ rank. IsFoundAt (way self.old) (way self.new) dir rank) }
+        ensures closed { IsNone result → IsByMap (way self.old) }
         ensures held { HoldsAsMuch (way self.old) (way self.new) };
 }
 
@@ -26,20 +27,31 @@ pub struct OwnRank {
 impl Route for OwnRank {
     ghost way = { λ own. At own.rank };
 
-    fn rank_for(&mut self, _dir: Dir) -> Rank {
-        self.rank
+    fn rank_for(&mut self, _dir: Dir) -> Option<Rank> {
+        Some(self.rank)
     }
 }
 
-/// The rank that a reader of the map finds, and rank 0 where it finds none.
+/// The rank that a reader of the map finds, and rank 0 where the map has the directory nowhere.
 impl<J: Naming> Route for MapReader<J> {
     ghost way = { λ reader. ByMap reader };
 
-    fn rank_for(&mut self, dir: Dir) -> Rank {
+    fn rank_for(&mut self, dir: Dir) -> Option<Rank> {
         match self.find(dir) {
-            Found::Rank(rank) => rank,
-            Found::NoDir | Found::Closed => rank_zero(),
+            Found::Rank(rank) => Some(rank),
+            Found::NoDir => Some(asked_rank(None)),
+            Found::Closed => None,
         }
+    }
+}
+
+// The rank at which a request is asked where a directory was found at a rank, or nowhere.
+pub(crate) fn asked_rank(found: Option<Rank>) -> Rank
+    ensures { result ≡ rank_or_zero found }
+{
+    match found {
+        Some(rank) => rank,
+        None => rank_zero(),
     }
 }
 

@@ -6,11 +6,11 @@ ghost use Rattle.heat_ledger.specs.Rows.{entry};
 ghost use Rattle.rank_threads.specs.Answered.{IsAnswered, IsRankServed};
 ghost use Rattle.rank_threads.specs.Serving.{Counted, Fits, IsShort, after_hits, no_thread};
 ghost use Rattle.rank_threads.specs.Tickets.{ticket_named};
-ghost use Rattle.rank_threads.specs.Ways.{HoldsAsMuch};
+ghost use Rattle.rank_threads.specs.Ways.{HoldsAsMuch, IsAskedAt};
 ghost use mathlib.Core.List.{IsPrefix};
 
 use crate::desk::{Done, Serving};
-use crate::route::Route;
+use crate::route::{Route, asked_rank};
 use crate::work::{Work, WorkAnswer, WorkError};
 use authority_map::Publisher;
 use export_rounds::Gate;
@@ -71,6 +71,22 @@ impl<
     R: Wait + Sync,
     G: Gate + Sync,
 > Serving<'_, J, M, K, R, G> {
+    // The rank at which a request is asked. Where the thread's reader finds the map closed, what is published is looked
+    // up under the lock.
+    fn rank_for<W: Route>(&self, dir: Dir, done: &mut Done<J, W, K>) -> Rank
+        ensures asked { IsAskedAt K.before done.new.known.seen (W.way done.old.way) (W.way done.new.way) dir result }
+        ensures held { HoldsAsMuch (W.way done.old.way) (W.way done.new.way) }
+        ensures seen { IsPrefix done.old.known.seen done.new.known.seen }
+        ensures tickets { done.new.known.tickets ≡ done.old.known.tickets }
+        ensures same { (done.new.share ≡ done.old.share) × (done.new.answers ≡ done.old.answers) }
+    {
+        if let Some(rank) = done.way.rank_for(dir) {
+            return rank;
+        }
+        let published = self.cell.lock(self.rt).rank_published(&mut done.known, dir);
+        asked_rank(published)
+    }
+
     // Serves a request. The lock is held only for each event.
     fn serve_one<W: Route>(
         &self,
@@ -90,7 +106,7 @@ impl<
         ensures answers { done.new.answers ≡ done.old.answers }
     {
         let _rows = done.share.limit();
-        let asked = done.way.rank_for(work.dir);
+        let asked = self.rank_for(work.dir, done);
         let begun = self
             .cell
             .lock(self.rt)

@@ -1,7 +1,7 @@
 //! Boards of several ranks, and phases on them.
 use crate::gates::JitterGate;
 use authority_map::Publisher;
-use export_threads::{OrderOutcome, Outcome};
+use export_threads::Outcome;
 use heat_ledger::Share;
 use mds_board::{Board, Shown};
 use mds_types::{Dir, Dirs, Order, Rank};
@@ -33,8 +33,8 @@ pub(crate) fn orders(alloc: Global, rows: &[(u8, u8, u32)]) -> Result<Vec<Order>
 }
 
 /// What became of an order whose export is done.
-pub(crate) fn done(export: u32) -> OrderOutcome {
-    OrderOutcome::TakenUp(Outcome::Done(export))
+pub(crate) fn done(export: u32) -> Outcome {
+    Outcome::Done(export)
 }
 
 // Adds the answers of all ranks, as far as there is room.

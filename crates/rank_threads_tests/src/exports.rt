@@ -6,7 +6,7 @@ use crate::trials::{Trial, try_often};
 use authority_map::Publisher;
 use board_state::BoardError;
 use export_protocol::{Event, StepError};
-use export_threads::{OrderOutcome, Outcome, export_phase};
+use export_threads::{Outcome, export_phase};
 use mds_board::Board;
 use naming::Naming;
 use std::alloc::Global;
@@ -16,11 +16,11 @@ use std::sync::Wait;
 use std::thread::Threads;
 
 // What became of orders when rank 2 had stopped: no rank has the number 3, and the export to rank 2 is aborted.
-fn late_are(rt: &impl Abort, outcomes: &[OrderOutcome]) {
+fn late_are(rt: &impl Abort, outcomes: &[Outcome]) {
     let late = [
-        OrderOutcome::TakenUp(Outcome::Refused(BoardError::Step(StepError::NoRank))),
+        Outcome::Refused(BoardError::Step(StepError::NoRank)),
         done(4),
-        OrderOutcome::TakenUp(Outcome::Aborted(5)),
+        Outcome::Aborted(5),
     ];
     same(rt, &outcomes, &late.as_slice());
 }

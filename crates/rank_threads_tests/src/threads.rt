@@ -7,7 +7,7 @@ use crate::same::{Sure, same};
 use crate::trials::{Trial, try_often};
 use authority_map::Publisher;
 use export_protocol::StepError;
-use export_threads::{OrderOutcome, export_phase};
+use export_threads::{Outcome, export_phase};
 use heat_ledger::Share;
 use mds_board::Board;
 use mds_types::Dir;
@@ -71,7 +71,7 @@ pub(crate) fn move_on<
     if outcomes.as_slice() == [done(0), done(1)].as_slice() {
         same(rt, &authorities, &(Some(rank(1)), Some(rank(2))));
     } else {
-        let none = [OrderOutcome::NoThread, OrderOutcome::NoThread];
+        let none = [Outcome::NoThread, Outcome::NoThread];
         same(rt, &outcomes.as_slice(), &none.as_slice());
         same(rt, &authorities, &(Some(rank(0)), Some(rank(0))));
         assert!(rt; !has_export && !is_sure);

@@ -93,18 +93,16 @@ fn try_on<J: Naming + Send + Sync, M: Publisher<J> + Send, R: Abort + Threads + 
     seats: Seats<J>,
     trial: Trial,
 ) {
-    let mut board = board;
     match trial {
-        Trial::Many => many::move_all(rt, alloc, &mut board),
-        Trial::Moves(name, acts) => moves::try_acts(rt, alloc, &mut board, name, acts),
-        Trial::RefusedGrowth => refused::phases(rt, alloc, &mut board),
-        Trial::Held => return traffic::hold(rt, alloc, board, seats),
-        Trial::AtOnce(rank) => return traffic::serve_and_move(rt, alloc, board, seats, rank),
-        Trial::ByMap => return traffic::ask_by_map(rt, alloc, board, seats),
+        Trial::Many => many::move_all(rt, alloc, board),
+        Trial::Moves(name, acts) => moves::try_acts(rt, alloc, board, name, acts),
+        Trial::RefusedGrowth => refused::phases(rt, alloc, board),
+        Trial::Held => traffic::hold(rt, alloc, board, seats),
+        Trial::AtOnce(rank) => traffic::serve_and_move(rt, alloc, board, seats, rank),
+        Trial::ByMap => traffic::ask_by_map(rt, alloc, board, seats),
         Trial::Totals => panic!(rt; "its board is its own"),
-        Trial::Scarce(most) => return scarce::serve_and_move(rt, alloc, board, seats, most),
+        Trial::Scarce(most) => scarce::serve_and_move(rt, alloc, board, seats, most),
     }
-    board.end();
 }
 
 fn on_parts<J: Naming + Send + Sync, M: Publisher<J> + Send, R: Abort + Threads + Wait + Sync>(

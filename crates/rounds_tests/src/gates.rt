@@ -9,6 +9,42 @@ use std::thread;
 /// How often a thread gives way at most, until it goes on without the others.
 const TURNS: u64 = 100_000_000;
 
+/// In each round the ranks take their turns one after the other, from rank 0 on. A gate serves for one phase.
+#[derive(Drop)]
+pub(crate) struct InTurnGate {
+    ranks: u64,
+    over: AtomicU64,
+}
+
+impl InTurnGate {
+    /// No turn is over, on a board of so many ranks.
+    pub(crate) fn new(ranks: u8) -> InTurnGate {
+        InTurnGate {
+            ranks: u64::from(ranks),
+            over: AtomicU64::new(0),
+        }
+    }
+}
+
+impl Gate for InTurnGate {
+    fn before(&self, rank: Rank, number: u64) {
+        let rounds = number.wrapping_sub(1);
+        let earlier = rounds
+            .wrapping_mul(self.ranks)
+            .wrapping_add(u64::from(rank.number()));
+        for _ in 0..TURNS {
+            if self.over.load(Ordering::SeqCst) == earlier {
+                return;
+            }
+            thread::yield_now();
+        }
+    }
+
+    fn after(&self, _rank: Rank, _number: u64) {
+        self.over.fetch_add(1, Ordering::SeqCst);
+    }
+}
+
 /// Threads give way now and then.
 pub(crate) struct JitterGate;
 

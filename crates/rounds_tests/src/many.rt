@@ -9,7 +9,10 @@ use mds_board::Board;
 use mds_types::Dir;
 use naming::Naming;
 use std::alloc::Global;
+use std::marker::{Send, Sync};
 use std::process::Abort;
+use std::sync::Wait;
+use std::thread::Threads;
 
 /// Exports of the phase, each of one directory.
 const MANY: u32 = 32_768;
@@ -24,17 +27,20 @@ fn fill<J: Naming, M: Publisher<J>>(rt: &impl Abort, alloc: Global, board: &mut 
 }
 
 /// A phase of as many exports as that, each of which is done.
-pub(crate) fn move_all<J: Naming, M: Publisher<J>>(
-    rt: &impl Abort,
-    alloc: Global,
-    board: &mut Board<J, M>,
-) {
-    fill(rt, alloc, board);
+pub(crate) fn move_all<
+    J: Naming + Send + Sync,
+    M: Publisher<J> + Send,
+    R: Abort + Threads + Wait + Sync,
+>(rt: &R, alloc: Global, board: Board<J, M>) {
+    let mut board = board;
+    fill(rt, alloc, &mut board);
     let mut rows = Vec::with_capacity(alloc, MANY as usize).sure(rt);
     for number in 0..MANY {
         rows.push((0, 1, number + 1)).sure(rt);
     }
-    let outcomes = moved(alloc, board, &mut Unsettled::new(alloc), &rows).sure(rt);
+    let (board, outcomes) = moved(rt, alloc, board, &mut Unsettled::new(alloc), &rows);
+    board.end();
+    let outcomes = outcomes.sure(rt);
     same(rt, &outcomes.len(), &(MANY as usize));
     for (number, outcome) in (0..MANY).zip(outcomes.iter()) {
         same(rt, outcome, &Outcome::Done(number));

@@ -10,7 +10,10 @@ use export_rounds::{Outcome, Unsettled};
 use mds_board::Board;
 use naming::Naming;
 use std::alloc::Global;
+use std::marker::{Send, Sync};
 use std::process::Abort;
+use std::sync::Wait;
+use std::thread::Threads;
 
 /// What is done with a board, or found on it.
 #[derive(Clone, Copy)]
@@ -60,7 +63,39 @@ fn same_outcomes(rt: &impl Abort, found: &[Outcome], told: &[Told], name: &str) 
     }
 }
 
-fn try_act<J: Naming, M: Publisher<J>>(
+// Carries out orders, and compares what became of them.
+fn move_by<J: Naming + Send + Sync, M: Publisher<J> + Send, R: Abort + Threads + Wait + Sync>(
+    rt: &R,
+    alloc: Global,
+    board: Board<J, M>,
+    unsettled: &mut Unsettled,
+    name: &str,
+    rows: &[(u8, u8, u32)],
+    told: &[Told],
+) -> Board<J, M> {
+    let (board, outcomes) = moved(rt, alloc, board, unsettled, rows);
+    same_outcomes(rt, &outcomes.sure(rt), told, name);
+    board
+}
+
+fn try_act<J: Naming + Send + Sync, M: Publisher<J> + Send, R: Abort + Threads + Wait + Sync>(
+    rt: &R,
+    alloc: Global,
+    board: Board<J, M>,
+    unsettled: &mut Unsettled,
+    name: &str,
+    next: Act,
+) -> Board<J, M> {
+    let mut board = board;
+    if let Act::Move(rows, told) = next {
+        return move_by(rt, alloc, board, unsettled, name, rows, told);
+    }
+    look(rt, alloc, &mut board, unsettled, name, next);
+    board
+}
+
+// Makes steps, or compares what is found.
+fn look<J: Naming, M: Publisher<J>>(
     rt: &impl Abort,
     alloc: Global,
     board: &mut Board<J, M>,
@@ -70,10 +105,7 @@ fn try_act<J: Naming, M: Publisher<J>>(
 ) {
     match next {
         Act::Play(steps) => play(rt, alloc, board, name, steps),
-        Act::Move(rows, told) => {
-            let outcomes = moved(alloc, board, unsettled, rows).sure(rt);
-            same_outcomes(rt, &outcomes, told, name);
-        }
+        Act::Move(_, _) => {}
         Act::States(export, exporter, importer) => {
             let states = board.cluster().states(export);
             same_in(rt, &states, &Some((exporter, importer)), &name);
@@ -89,18 +121,18 @@ fn try_act<J: Naming, M: Publisher<J>>(
 }
 
 /// Does it all, one after the other, once /a and /b are made.
-pub(crate) fn try_acts<J: Naming, M: Publisher<J>>(
-    rt: &impl Abort,
-    alloc: Global,
-    board: &mut Board<J, M>,
-    name: &str,
-    acts: &[Act],
-) {
-    make(rt, alloc, board, &["a", "b"]);
+pub(crate) fn try_acts<
+    J: Naming + Send + Sync,
+    M: Publisher<J> + Send,
+    R: Abort + Threads + Wait + Sync,
+>(rt: &R, alloc: Global, board: Board<J, M>, name: &str, acts: &[Act]) {
+    let mut board = board;
+    make(rt, alloc, &mut board, &["a", "b"]);
     let mut unsettled = Unsettled::new(alloc);
     for next in acts {
-        try_act(rt, alloc, board, &mut unsettled, name, *next);
+        board = try_act(rt, alloc, board, &mut unsettled, name, *next);
     }
+    board.end();
 }
 
 const MOVES: &[(&str, &[Act])] = &[

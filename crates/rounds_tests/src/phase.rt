@@ -11,7 +11,7 @@ use std::marker::{Send, Sync};
 use std::process::Abort;
 use std::sync::Wait;
 use std::thread::Threads;
-use traffic_threads::{OrderOutcome, Tasks, Traffic, Work, WorkAnswer, traffic_phase};
+use traffic_threads::{Outcome, Tasks, Traffic, Work, WorkAnswer, traffic_phase};
 
 /// What is kept from one phase to the next beside the board.
 #[derive(Drop)]
@@ -25,7 +25,7 @@ pub(crate) struct Seats<J: Naming> {
 #[derive(Drop)]
 pub(crate) struct Told {
     pub(crate) answers: Vec<Vec<WorkAnswer>>,
-    pub(crate) outcomes: Vec<OrderOutcome>,
+    pub(crate) outcomes: Vec<Outcome>,
     pub(crate) refused: bool,
 }
 

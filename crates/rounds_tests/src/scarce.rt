@@ -5,14 +5,15 @@
 
 use crate::boards::{Trial, on_board};
 use crate::phase::{Seats, Told, phase, scripts};
-use crate::refused::{made_at_last, orders_at_last};
+use crate::refused::{carry_out_again, made_at_last, orders_at_last};
 use crate::same::{Sure, holds_in};
-use crate::steps::{moved, stand};
+use crate::steps::{rank, stand};
 use crate::traffic::MOVE;
 use authority_map::Publisher;
 use board_state::BoardError;
-use export_threads::{OpenGate, OrderOutcome, Outcome};
+use export_threads::{OpenGate, Outcome};
 use mds_board::Board;
+use mds_types::Dir;
 use naming::Naming;
 use rank_threads::WorkError;
 use std::alloc::{AllocError, Global};
@@ -40,7 +41,7 @@ fn lacks(rt: &impl Abort, answer: &WorkAnswer, hits: u32) -> bool {
 
 // How many requests weren't served, and orders not done. A phase that was refused at first counts, too.
 fn lacking(rt: &impl Abort, told: &Told) -> u32 {
-    let done = OrderOutcome::TakenUp(Outcome::Done(0));
+    let done = Outcome::Done(0);
     let mut lacking = u32::from(told.refused);
     lacking = lacking.wrapping_add(u32::from(told.outcomes.first() != Some(&done)));
     for (answers, hits) in told.answers.iter().zip([3, 2]) {
@@ -52,7 +53,7 @@ fn lacking(rt: &impl Abort, told: &Told) -> u32 {
 }
 
 /// Each request is served, or isn't for want of memory or a thread, and the order is done or not. At `most` so many of
-/// these are refused. What is undone later phases do.
+/// these are refused. What is undone later phases do, where they have a thread for it.
 pub(crate) fn serve_and_move<
     J: Naming + Send + Sync,
     M: Publisher<J> + Send,
@@ -66,13 +67,13 @@ pub(crate) fn serve_and_move<
         scripts: &scripts,
         orders: &orders,
     };
-    let (mut board, mut seats, told) = phase(rt, alloc, board, seats, tasks, &OpenGate);
+    let (after, mut seats, told) = phase(rt, alloc, board, seats, tasks, &OpenGate);
     let lacking = lacking(rt, &told);
     holds_in(rt, lacking <= most, &lacking);
-    for _ in 0..2 {
-        let _outcomes = moved(alloc, &mut board, &mut seats.unsettled, MOVE).ok();
-    }
-    stand(rt, &board, "in the end", &[(0, 0), (1, 1)]);
+    let (board, last) = carry_out_again(rt, alloc, after, &mut seats.unsettled, &orders, 2);
+    let stays = last == Some(Outcome::NoThread)
+        && board.cluster().authority(Dir::new(1)) == Some(rank(0));
+    stand(rt, &board, "in the end", &[(0, 0), (1, u8::from(!stays))]);
     board.end();
 }
 

@@ -1,14 +1,19 @@
 //! What is done to a board in a test, and what is read of it.
 
+use crate::gates::InTurnGate;
 use crate::same::{Sure, holds_in, same_in};
 use authority_map::Publisher;
 use export_protocol::Event;
-use export_rounds::{Outcome, Unsettled, carry_out_orders_from};
+use export_rounds::Unsettled;
+use export_threads::{Outcome, export_phase_from};
 use mds_board::Board;
 use mds_types::{Dir, Dirs, Order, Rank};
 use naming::Naming;
 use std::alloc::{AllocError, Global};
+use std::marker::{Send, Sync};
 use std::process::Abort;
+use std::sync::Wait;
+use std::thread::Threads;
 
 /// A step of a test.
 #[derive(Clone, Copy)]
@@ -75,14 +80,19 @@ pub(crate) fn orders(alloc: Global, rows: &[(u8, u8, u32)]) -> Result<Vec<Order>
     Ok(orders)
 }
 
-/// Moves directories, each by an order of its own.
-pub(crate) fn moved<J: Naming, M: Publisher<J>>(
+/// Moves directories, each by an order of its own. In each round the ranks take their turns one after the other.
+pub(crate) fn moved<J: Naming + Send + Sync, M: Publisher<J> + Send, R: Threads + Wait + Sync>(
+    rt: &R,
     alloc: Global,
-    board: &mut Board<J, M>,
+    board: Board<J, M>,
     unsettled: &mut Unsettled,
     rows: &[(u8, u8, u32)],
-) -> Result<Vec<Outcome>, AllocError> {
-    carry_out_orders_from(board, alloc, &orders(alloc, rows)?, unsettled)
+) -> (Board<J, M>, Result<Vec<Outcome>, AllocError>) {
+    let gate = InTurnGate::new(board.pins().active());
+    match orders(alloc, rows) {
+        Ok(orders) => export_phase_from(rt, alloc, board, &gate, &orders, unsettled),
+        Err(error) => (board, Err(error)),
+    }
 }
 
 /// Makes directories /a, /b and so on, numbered from 1.

@@ -10,7 +10,7 @@ use crate::steps::{Do, make, moved, orders, play, rank};
 use authority_map::{Found, MapReader, Publisher};
 use board_state::BoardParts;
 use export_rounds::Unsettled;
-use export_threads::{OrderOutcome, Outcome};
+use export_threads::Outcome;
 use heat_ledger::Share;
 use mds_board::{Board, History, Shown};
 use mds_types::{Dir, Kind};
@@ -45,7 +45,7 @@ pub(crate) fn hold<
     let (board, _seats, told) = phase(rt, alloc, board, seats, tasks, &gate);
     same(rt, &gate.met(), &2);
     same(rt, &total(&told.answers), &(7, 2));
-    let aborted = [OrderOutcome::TakenUp(Outcome::Aborted(0))];
+    let aborted = [Outcome::Aborted(0)];
     same(rt, &told.outcomes.as_slice(), &aborted.as_slice());
     same(rt, &board.counted(Dir::new(1), Kind::Read), &5);
     same(rt, &board.counted(Dir::ROOT, Kind::Read), &2);
@@ -58,14 +58,11 @@ fn an_export_runs_beside_a_request(rt: HostRuntime) {
 }
 
 // Whether the export of the one order was started.
-fn is_started(outcomes: &[OrderOutcome]) -> bool {
-    match outcomes.first() {
-        Some(OrderOutcome::TakenUp(outcome)) => matches!(
-            *outcome,
-            Outcome::Done(0) | Outcome::Aborted(0) | Outcome::Open(0)
-        ),
-        _ => false,
-    }
+fn is_started(outcomes: &[Outcome]) -> bool {
+    matches!(
+        outcomes.first(),
+        Some(Outcome::Done(0) | Outcome::Aborted(0) | Outcome::Open(0))
+    )
 }
 
 // The board counts on directory 1 so many hits and requests. A reader that learns what the board tells finds the
@@ -141,7 +138,8 @@ pub(crate) fn ask_by_map<
 >(rt: &R, alloc: Global, board: Board<J, M>, seats: Seats<J>) {
     let (mut board, mut seats) = (board, seats);
     make(rt, alloc, &mut board, &["a"]);
-    let _outcomes = moved(alloc, &mut board, &mut seats.unsettled, MOVE).sure(rt);
+    let (board, outcomes) = moved(rt, alloc, board, &mut seats.unsettled, MOVE);
+    let _outcomes = outcomes.sure(rt);
     let scripts = scripts(alloc, &[(1, 3), (7, 2)], 1).sure(rt);
     let tasks = Tasks {
         scripts: &scripts,

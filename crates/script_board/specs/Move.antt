@@ -4,8 +4,8 @@ use Rattle.mds_types.specs.declared.order.Order.{Order}
 use Rattle.board_state.specs.State.{pin_orders}
 use Rattle.export_rounds.specs.Adding.{GoesOnBy}
 use Rattle.export_rounds.specs.Further.{IsFurther}
-use Rattle.export_threads.specs.declared.order_outcome.OrderOutcome.{OrderOutcome}
-use Rattle.export_threads.specs.Carrying.{AreAll, AreTold}
+use Rattle.export_rounds.specs.Outcomes.{AreAll, AreOutcomes}
+use Rattle.export_rounds.specs.declared.outcome.Outcome.{Outcome}
 use Rattle.script_board.specs.Board.{BoardData}
 
 -- the orders of pins, and then those of the last plan
@@ -14,11 +14,11 @@ move_orders b = pin_orders b.world.state ++ b.kept
 
 -- The orders were carried out: the history goes on only by events of exports, and only exports that this move started
 -- are aborted; each order has its outcome, no other export was started, and no order is kept.
-pub record IsMoved (old : BoardData) (carried : List Order) (told : List OrderOutcome) (new : BoardData) : Type 0 where
+pub record IsMoved (old : BoardData) (carried : List Order) (told : List Outcome) (new : BoardData) : Type 0 where
   pub orders : carried ≡ move_orders old
   pub further : IsFurther old.world new.world
   pub events : GoesOnBy (length old.world.state.cluster.orders) old.world new.world
-  pub outcomes : AreTold old.world new.world carried told
+  pub outcomes : AreOutcomes old.world new.world carried told
   pub all : AreAll old.world new.world told
   pub forgotten : new.kept ≡ []
   pub shares : new.shares ≡ old.shares

@@ -1,7 +1,7 @@
 -- What `go` does: the waiting requests are served by a thread a rank, and each share deposits its hits.
 use Rattle.std.specs.List.{list_any}
 use Rattle.std.specs.Option.{option_map}
-use Rattle.std.specs.Prelude.{◌≡◌, ℕ, ◌<◌, ◌+◌, ◌==◌, nat_lt, if◌then◌else◌, Bool, not, List, [], ◌∷◌, ◌++◌, All}
+use Rattle.std.specs.Prelude.{◌≡◌, ℕ, ◌<◌, ◌+◌, ◌==◌, nat_lt, if◌then◌else◌, Bool, not, List, [], ◌∷◌, ◌++◌}
 use Rattle.std.specs.Prelude.{filter, length, map, slice_get, slice_index_or, Option, Some, None, Result, Ok, Err}
 use Rattle.authority_map.specs.Operations.{rank_after}
 use Rattle.dirtree.specs.Tree as tree

@@ -4,7 +4,7 @@ ghost use Rattle.script_board.specs.Move.{IsMoved, move_orders};
 
 use crate::script_board::ScriptBoard;
 use authority_map::Publisher;
-use export_threads::{OpenGate, OrderOutcome, export_phase_from};
+use export_threads::{OpenGate, Outcome, export_phase_from};
 use mds_types::Order;
 use naming::Naming;
 use std::alloc::{AllocError, Global};
@@ -22,7 +22,7 @@ impl<J: Naming + Send + Sync, M: Publisher<J> + Send> ScriptBoard<J, M> {
         alloc: Global,
     ) -> (
         ScriptBoard<J, M>,
-        Result<(Vec<Order>, Vec<OrderOutcome>), AllocError>,
+        Result<(Vec<Order>, Vec<Outcome>), AllocError>,
     )
         ensures done { IfOk result.1 (λ r. IsMoved self r.0.items r.1.items result.0) }
         ensures unchanged { OnErr result.1 (result.0 ≡ self) }

@@ -3,7 +3,7 @@ use Rattle.std.specs.Prelude.{◌≡◌, ℕ, Bool, true, false, List, [], ◌�
 use Rattle.division_cost.specs.declared.division.Part.{Part}
 use Rattle.mds_types.specs.declared.order.Order.{Order}
 use Rattle.mds_types.specs.declared.plan.Plan.{Plan}
-use Rattle.export_threads.specs.declared.order_outcome.OrderOutcome.{OrderOutcome}
+use Rattle.export_rounds.specs.declared.outcome.Outcome.{Outcome}
 use Rattle.script_commands.specs.Commands as line
 use Rattle.script_commands.specs.Commands.{Command}
 use Rattle.script_board.specs.declared.fault.Fault.{Fault}
@@ -100,5 +100,5 @@ Does b Serves p ample new = IsGone b p.refused new × (p.lines ≡ []) × (ample
 Does b Plans p ample new =
     (plan : Plan) × IsPlanned b plan new × (p ≡ only_lines (plan_lines new (parts_in_force new))) × (ample ≡ true)
 Does b Moves p ample new =
-    (orders : List Order) × (outcomes : List OrderOutcome) × IsMoved b orders outcomes new × (p
+    (orders : List Order) × (outcomes : List Outcome) × IsMoved b orders outcomes new × (p
     ≡ only_lines (move_lines new orders outcomes)) × (ample ≡ true)

@@ -8,21 +8,16 @@ use Rattle.mds_types.specs.Refusal.{words}
 use Rattle.mds_types.specs.declared.refusal.Refusal.TheVariants as refusal
 use Rattle.board_state.specs.Refused.{refusal_of}
 use Rattle.export_rounds.specs.declared.outcome.Outcome.{Outcome}
-use Rattle.export_rounds.specs.declared.outcome.Outcome.TheVariants.{Done, Aborted, Open, Refused}
-use Rattle.export_threads.specs.declared.order_outcome.OrderOutcome.{OrderOutcome}
-use Rattle.export_threads.specs.declared.order_outcome.OrderOutcome.TheVariants.{TakenUp, NoThread}
+use Rattle.export_rounds.specs.declared.outcome.Outcome.TheVariants.{Done, Aborted, Open, Refused, NoThread}
 use Rattle.script_board.specs.Board.{BoardData}
 
+-- an order that no thread took up, as its exporter had none, is refused, too
 abbrev pub word : Outcome → List ℕ
 word (Done export) = codes "done"
 word (Aborted export) = codes "aborted"
 word (Open export) = codes "open"
 word (Refused error) = codes "refused " ++ words (refusal_of error)
-
--- of an order that no thread took up, as its exporter had none
-abbrev pub order_word : OrderOutcome → List ℕ
-order_word (TakenUp outcome) = word outcome
-order_word NoThread = codes "refused " ++ words refusal.NoThread
+word NoThread = codes "refused " ++ words refusal.NoThread
 
 abbrev pub move_line : ℕ → List ℕ
 move_line count = codes "move " ++ decimal count ++ 10 ∷ []
@@ -58,16 +53,16 @@ abbrev pub export_text : List ℕ → ℕ → ℕ → List ℕ → List ℕ
 export_text way count inodes told =
     way ++ codes " dirs " ++ decimal count ++ codes " inodes " ++ decimal inodes ++ codes " " ++ told ++ 10 ∷ []
 
-abbrev pub export_line : BoardData → Order × OrderOutcome → List ℕ
+abbrev pub export_line : BoardData → Order × Outcome → List ℕ
 export_line b told =
     export_text (way_text (top_path b told.0) told.0.from told.0.to) (length told.0.dirs)
-    (all_inodes b.world.state.directories.entries told.0.dirs) (order_word told.1)
+    (all_inodes b.world.state.directories.entries told.0.dirs) (word told.1)
 
 -- each order with its outcome
-abbrev pub pairs : List Order → List OrderOutcome → List (Order × OrderOutcome)
+abbrev pub pairs : List Order → List Outcome → List (Order × Outcome)
 pairs (order ∷ orders) (outcome ∷ outcomes) = (order, outcome) ∷ pairs orders outcomes
 pairs _ _ = []
 
 -- the line on all orders, and then a line for each, with what became of it
-abbrev pub move_lines : BoardData → List Order → List OrderOutcome → List (List ℕ)
+abbrev pub move_lines : BoardData → List Order → List Outcome → List (List ℕ)
 move_lines b orders outcomes = move_line (length orders) ∷ map (export_line b) (pairs orders outcomes)

@@ -1,12 +1,11 @@
 //! The lines of `move`. Each is made in a text, in place of what it held.
 ghost use Rattle.std.specs.Prelude.{◌≡◌, OnOk, string_bytes};
 ghost use Rattle.script_session.specs.Move.{all_inodes, export_line, export_text, move_line};
-ghost use Rattle.script_session.specs.Move.{order_word, top_of, top_path, way_text, word};
+ghost use Rattle.script_session.specs.Move.{top_of, top_path, way_text, word};
 
 use authority_map::Publisher;
 use dirtree::Tree;
 use export_rounds::Outcome;
-use export_threads::OrderOutcome;
 use mds_types::{Dir, Order, Rank, Refusal};
 use naming::Naming;
 use script_board::ScriptBoard;
@@ -28,18 +27,7 @@ fn word(outcome: Outcome, text: &mut String) -> Result<(), AllocError>
         Outcome::Aborted(_) => text.push_str("aborted"),
         Outcome::Open(_) => text.push_str("open"),
         Outcome::Refused(error) => write!(text, "refused {error}"),
-    }
-}
-
-fn order_word(outcome: OrderOutcome, text: &mut String) -> Result<(), AllocError>
-    ensures { OnOk result (string_bytes text.new ≡ order_word outcome) }
-{
-    match outcome {
-        OrderOutcome::TakenUp(outcome) => word(outcome, text),
-        OrderOutcome::NoThread => {
-            text.clear();
-            write!(text, "refused {}", Refusal::NoThread)
-        }
+        Outcome::NoThread => write!(text, "refused {}", Refusal::NoThread),
     }
 }
 
@@ -88,7 +76,7 @@ pub(crate) fn export_line<J: Naming, M: Publisher<J>>(
     alloc: Global,
     board: &ScriptBoard<J, M>,
     order: &Order,
-    outcome: OrderOutcome,
+    outcome: Outcome,
     field: &mut String,
     line: &mut String,
 ) -> Result<(), AllocError>
@@ -98,7 +86,7 @@ pub(crate) fn export_line<J: Naming, M: Publisher<J>>(
     way_text(field.as_str(), order.from, order.to, line)?;
     let dirs = order.dirs.as_slice();
     let inodes = all_inodes(board.board().tree(), dirs);
-    order_word(outcome, field)?;
+    word(outcome, field)?;
     add_told(dirs.len(), inodes, field.as_str(), line)
 }
 

@@ -5,7 +5,7 @@ ghost use Rattle.script_session.specs.Reply.{IsPrintable, reply_lines};
 
 use board_problem::PlanPart;
 use division_cost::Part;
-use export_threads::OrderOutcome;
+use export_rounds::Outcome;
 use mds_types::{Dir, Order};
 
 /// What a command prints, from which its lines are made one by one as they are written.
@@ -18,7 +18,7 @@ pub enum CommandReply {
     /// The plan in force, by its parts.
     Plan(Vec<PlanPart>),
     /// Orders, each with what became of it.
-    Move(Vec<Order>, Vec<OrderOutcome>),
+    Move(Vec<Order>, Vec<Outcome>),
     /// A report on these directories.
     Stat(Vec<Dir>),
 }

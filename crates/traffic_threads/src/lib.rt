@@ -8,7 +8,7 @@
 pub mod phase;
 pub mod totals;
 
-pub use export_threads::OrderOutcome;
+pub use export_threads::Outcome;
 pub use phase::{Tasks, Traffic, traffic_phase};
 pub use rank_threads::{Gate, OpenGate, Ranks, Work, WorkAnswer};
 pub use totals::traffic_with_totals;

@@ -2,16 +2,16 @@
 ghost use Rattle.std.specs.Prelude.{◌≡◌, ◌≤◌, [], IfErr, IfOk, OnErr, count_by, length, map, true};
 ghost use Rattle.std.specs.Prelude.{vec_capacity, vec_len};
 ghost use Rattle.export_rounds.specs.Asked.{AreAsked, is_begun};
-ghost use Rattle.export_threads.specs.Carrying.{AreAll, AreTold};
+ghost use Rattle.export_rounds.specs.Outcomes.{AreAll, AreOutcomes};
 ghost use Rattle.phased_board.specs.Begun.{IsEndTold};
 ghost use Rattle.rank_threads.specs.Asking.{AreServed};
 ghost use Rattle.phased_board.specs.Going.{WentOnBy};
 ghost use Rattle.rank_threads.specs.Ways.{ByMap};
 
 use authority_map::{MapReader, Publisher};
+use export_rounds::closing::tell;
 use export_rounds::{Gate, Unsettled};
-use export_threads::telling::tell;
-use export_threads::{OrderOutcome, Prepared, carry_out, prepare};
+use export_threads::{Outcome, Prepared, carry_out, prepare};
 use heat_ledger::Share;
 use mds_board::{Board, Entry};
 use mds_types::Order;
@@ -32,7 +32,7 @@ pub struct Traffic<J: Naming> {
     /// The reader of each rank, in rank order.
     pub readers: Vec<MapReader<J>>,
     /// What became of each order, in their order.
-    pub outcomes: Vec<OrderOutcome>,
+    pub outcomes: Vec<Outcome>,
 }
 
 /// What is done in a phase.
@@ -91,7 +91,7 @@ fn traffic_named<
         (map (λ s. s.items) scripts.now) (map (λ a. a.items) t.ranks.answers.items) t.ranks.shares.items
         (map ByMap t.readers.items) t.ranks.deposited) }
     ensures ended { IfOk result.1 (λ t. IsEndTold board result.0 t.ranks.ended) }
-    ensures outcomes { IfOk result.1 (λ t. AreTold board result.0 orders.now t.outcomes.items) }
+    ensures outcomes { IfOk result.1 (λ t. AreOutcomes board result.0 orders.now t.outcomes.items) }
     ensures all { IfOk result.1 (λ t. AreAll board result.0 t.outcomes.items) }
     ensures memory { IfErr result.1 (λ e. (e.value.0.items ≡ shares.items) × (e.value.1.items ≡ readers.items)) }
     ensures unchanged { OnErr result.1 (result.0 ≡ board) }
@@ -132,7 +132,8 @@ fn traffic_named<
 
 /// Serves the requests of each rank in order and carries out orders in eight rounds, both at once, each rank's requests
 /// by one thread and its exports by another. `scripts[k]`, `shares[k]` and `readers[k]` are those of rank k's thread of
-/// requests. It asks each request at the rank that its reader finds at that moment, and at rank 0 where it finds none.
+/// requests. It asks each request at the rank that its reader finds at that moment, and at rank 0 where the map has the
+/// directory nowhere. Where the reader finds the map closed, what is published is looked up under the lock.
 ///
 /// `gate` is called around each request, and `rounds` around each turn of a rank in a round, as `serve_phase` and
 /// `export_phase` do. Hits are deposited, and what isn't logged is aborted, as these do.
@@ -167,7 +168,7 @@ pub fn traffic_phase<
         (map (λ s. s.items) tasks.entry.scripts.now) (map (λ a. a.items) t.ranks.answers.items) t.ranks.shares.items
         (map ByMap t.readers.items) t.ranks.deposited) }
     ensures ended { IfOk result.1 (λ t. IsEndTold board result.0 t.ranks.ended) }
-    ensures outcomes { IfOk result.1 (λ t. AreTold board result.0 tasks.entry.orders.now t.outcomes.items) }
+    ensures outcomes { IfOk result.1 (λ t. AreOutcomes board result.0 tasks.entry.orders.now t.outcomes.items) }
     ensures all { IfOk result.1 (λ t. AreAll board result.0 t.outcomes.items) }
     ensures memory { IfErr result.1 (λ e. (e.value.0.items ≡ shares.items) × (e.value.1.items ≡ readers.items)) }
     ensures unchanged { OnErr result.1 (result.0 ≡ board) }

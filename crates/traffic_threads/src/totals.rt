@@ -1,6 +1,6 @@
 //! A phase of requests and exports, for a caller that has all shares of the ledger.
 ghost use Rattle.std.specs.Prelude.{◌≡◌, ◌≤◌, ◌<◌, ◌+◌, ℕ, IfErr, IfOk, OnErr, length, map, true, vec_len};
-ghost use Rattle.export_threads.specs.Carrying.{AreAll, AreTold};
+ghost use Rattle.export_rounds.specs.Outcomes.{AreAll, AreOutcomes};
 ghost use Rattle.heat_ledger.specs.Ledger.{pending_of, weight_of};
 ghost use Rattle.heat_ledger.specs.Rows.{at};
 ghost use Rattle.phased_board.specs.Begun.{IsEndTold};
@@ -64,7 +64,7 @@ pub fn traffic_with_totals<
         + over_ranks (hits_on e) (map (λ s. s.items) tasks.entry.scripts.now)
         (map (λ a. a.items) t.ranks.answers.items)) }
     ensures ended { IfOk result.1 (λ t. IsEndTold board result.0 t.ranks.ended) }
-    ensures outcomes { IfOk result.1 (λ t. AreTold board result.0 tasks.entry.orders.now t.outcomes.items) }
+    ensures outcomes { IfOk result.1 (λ t. AreOutcomes board result.0 tasks.entry.orders.now t.outcomes.items) }
     ensures all { IfOk result.1 (λ t. AreAll board result.0 t.outcomes.items) }
     ensures memory { IfErr result.1 (λ e. (e.value.0.items ≡ shares.items) × (e.value.1.items ≡ readers.items)) }
     ensures unchanged { OnErr result.1 (result.0 ≡ board) }

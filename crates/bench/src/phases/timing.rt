@@ -7,7 +7,7 @@ use crate::phases::work::{
 use crate::times::nanos;
 use authority_map::{MapReader, Publisher};
 use export_protocol::{Event, Reply};
-use export_rounds::{Unsettled, carry_out_orders};
+use export_rounds::Unsettled;
 use export_threads::export_phase;
 use heat_ledger::Share;
 use mds_board::Board;
@@ -22,8 +22,8 @@ use std::thread::Threads;
 use std::time::{Clock, Duration};
 use traffic_threads::{Tasks, traffic_phase};
 
-/// A phase: of all ranks at once, in threads, or on one thread. Both kinds of work go on at once, or one after the
-/// other.
+/// A phase: of all ranks at once, in threads, or of requests on one thread. Both kinds of work go on at once, or one
+/// after the other.
 #[derive(Clone, Copy)]
 pub struct Phase {
     pub work: Work,
@@ -61,20 +61,23 @@ fn make_one<J: Naming, M: Publisher<J>>(
 }
 
 // Makes `dirs` directories, the root with them, and gives each rank those of its own. It says whether that was done.
-fn make<J: Naming, M: Publisher<J>>(
+fn make<J: Naming + Send + Sync, M: Publisher<J> + Send, R: Threads + Wait + Sync>(
+    rt: &R,
     alloc: Global,
-    board: &mut Board<J, M>,
+    mut board: Board<J, M>,
     ranks: u8,
     dirs: u32,
-) -> bool {
+) -> (Board<J, M>, bool) {
     let mut done = true;
     for number in 1..dirs {
-        done &= make_one(alloc, board, parent_of(ranks, dirs, number), number);
+        done &= make_one(alloc, &mut board, parent_of(ranks, dirs, number), number);
     }
-    match deal(alloc, ranks, dirs) {
-        Ok(orders) => done && carry_out_orders(board, alloc, &orders).is_ok(),
-        Err(_) => false,
-    }
+    let Ok(orders) = deal(alloc, ranks, dirs) else {
+        return (board, false);
+    };
+    let board = export(rt, alloc, board, &orders);
+    let is_dealt = are_there(&board, &orders);
+    (board, done && is_dealt)
 }
 
 fn serve_alone<J: Naming, M: Publisher<J>>(
@@ -145,16 +148,11 @@ fn time_serve<J: Naming + Send + Sync, M: Publisher<J> + Send, R: Threads + Wait
 fn export<J: Naming + Send + Sync, M: Publisher<J> + Send, R: Threads + Wait + Sync>(
     rt: &R,
     alloc: Global,
-    mut board: Board<J, M>,
+    board: Board<J, M>,
     orders: &[Order],
-    at_once: bool,
 ) -> Board<J, M> {
-    if at_once {
-        let (after, _outcomes) = export_phase(rt, alloc, board, &OpenGate, orders);
-        return after;
-    }
-    let _outcomes = carry_out_orders(&mut board, alloc, orders);
-    board
+    let (after, _outcomes) = export_phase(rt, alloc, board, &OpenGate, orders);
+    after
 }
 
 // Whether each order's first directory is where the order takes it.
@@ -174,10 +172,9 @@ fn time_export<J: Naming + Send + Sync, M: Publisher<J> + Send, R: Threads + Wai
     alloc: Global,
     board: Board<J, M>,
     orders: &[Order],
-    at_once: bool,
 ) -> u64 {
     let start = wall(rt);
-    let board = export(rt, alloc, board, orders, at_once);
+    let board = export(rt, alloc, board, orders);
     let time = wall_since(rt, start);
     let is_done = are_there(&board, orders);
     board.end();
@@ -211,7 +208,7 @@ fn serve_and_export<J: Naming + Send + Sync, M: Publisher<J> + Send, R: Threads 
         return after;
     }
     let board = serve(rt, alloc, board, tasks.scripts, shares, true);
-    export(rt, alloc, board, tasks.orders, true)
+    export(rt, alloc, board, tasks.orders)
 }
 
 // The time of requests and exports, each of which has to be served or done.
@@ -233,47 +230,62 @@ fn time_both<J: Naming + Send + Sync, M: Publisher<J> + Send, R: Threads + Wait 
     if is_served && is_done { time } else { u64::MAX }
 }
 
+// How many directories the board of a phase has, the root with them.
+fn dirs_for(work: Work, ranks: u8) -> u32 {
+    match work {
+        Work::Serve(_) => u32::from(ranks) + 1,
+        Work::Export => DIR_LIMIT,
+        Work::Both(_) => u32::from(ranks) * 2 + 1,
+    }
+}
+
 /// The nanoseconds of wall time of a phase on a new board, and the board's end. In a phase of exports each rank gives
 /// its directories to the next.
 pub fn time_phase<
     J: Naming + Send + Sync,
     M: Publisher<J> + Send,
     R: Threads + Wait + Clock + Sync,
->(rt: &R, alloc: Global, mut board: Board<J, M>, seats: Seats<J>, ranks: u8, phase: Phase) -> u64 {
+>(rt: &R, alloc: Global, board: Board<J, M>, seats: Seats<J>, ranks: u8, phase: Phase) -> u64 {
+    let (board, is_made) = make(rt, alloc, board, ranks, dirs_for(phase.work, ranks));
+    if is_made {
+        return time_made(rt, alloc, board, seats, ranks, phase);
+    }
+    board.end();
+    u64::MAX
+}
+
+// The time of a phase on a board whose directories are dealt.
+fn time_made<J: Naming + Send + Sync, M: Publisher<J> + Send, R: Threads + Wait + Clock + Sync>(
+    rt: &R,
+    alloc: Global,
+    board: Board<J, M>,
+    seats: Seats<J>,
+    ranks: u8,
+    phase: Phase,
+) -> u64 {
+    let at_once = phase.at_once;
     match phase.work {
         Work::Serve(hits) => {
-            if let Ok(scripts) = scripts(alloc, ranks, hits, 1)
-                && make(alloc, &mut board, ranks, u32::from(ranks) + 1)
-            {
-                return time_serve(
-                    rt,
-                    alloc,
-                    board,
-                    seats.shares,
-                    &scripts,
-                    asked(ranks, hits),
-                    phase.at_once,
-                );
+            if let Ok(scripts) = scripts(alloc, ranks, hits, 1) {
+                let wanted = asked(ranks, hits);
+                return time_serve(rt, alloc, board, seats.shares, &scripts, wanted, at_once);
             }
         }
         Work::Export => {
-            if let Ok(orders) = pass_on(alloc, ranks, DIR_LIMIT)
-                && make(alloc, &mut board, ranks, DIR_LIMIT)
-            {
-                return time_export(rt, alloc, board, &orders, phase.at_once);
+            if let Ok(orders) = pass_on(alloc, ranks, DIR_LIMIT) {
+                return time_export(rt, alloc, board, &orders);
             }
         }
         Work::Both(hits) => {
             if let Ok(scripts) = scripts(alloc, ranks, hits, 2)
                 && let Ok(orders) = pass_second(alloc, ranks)
-                && make(alloc, &mut board, ranks, u32::from(ranks) * 2 + 1)
             {
                 let tasks = Tasks {
                     scripts: &scripts,
                     orders: &orders,
                 };
                 let wanted = asked(ranks, hits);
-                return time_both(rt, alloc, board, seats, tasks, wanted, phase.at_once);
+                return time_both(rt, alloc, board, seats, tasks, wanted, at_once);
             }
         }
     }

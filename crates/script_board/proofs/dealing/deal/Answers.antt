@@ -1,5 +1,5 @@
-use Rattle.std.proofs.Common.{◌≡◌, ◌<◌, ◌+◌, ◌++◌, ◌∷◌, [], ℕ, Bool, true, false, cond, List, Vec, Global, length, take, map, set, get_or, sym, subst, ap, arith, refl, ◌∙◌, append-nil}
-use Rattle.std.specs.Prelude.{filter, vec_len}
+use Rattle.std.proofs.Common.{◌≡◌, ◌+◌, ◌++◌, ◌∷◌, [], ℕ, Bool, true, false, cond, List, Vec, Global, length, take, map, set, get_or, sym, subst, ap, arith, ◌∙◌, append-nil}
+use Rattle.std.specs.Prelude.{filter}
 use Rattle.std.proofs.lemmas.List.{length-map, take_all}
 use Rattle.dirtree.specs.Tree.{Directories, is_there}
 use Rattle.rank_threads.specs.declared.work.Work.{Work}

@@ -1,8 +1,13 @@
-use Rattle.export_rounds.proofs.Ordering.{publishes_none}
+use Rattle.export_rounds.proofs.Adding.{publish_added}
+use Rattle.export_rounds.proofs.Going.{publishes}
+use Rattle.export_rounds.proofs.Ordering.{publish_orders}
 use Rattle.export_threads.proofs.Carrying.{goes_on}
 use Rattle.export_threads.proofs.cell.ExportingExportSide.publish.Goals as goal
 
 pub invariant_of-self : goal.invariant_of-self
 invariant_of-self g c =
-    let none = publishes_none c.publish.result c.self.inside.board c.publish.new.self c.publish.ensures in
-    goes_on g.K.ExportPhase.before c.self.inside.board c.publish.new.self g.K.ExportPhase.orders c.self.inside.standings.items c.self.invariant none.further none.orders (none.events _)
+    let was = c.self.inside.board in
+    let now = c.publish.new.self in
+    let done = c.publish.ensures in
+    goes_on g.K.ExportPhase.before was now g.K.ExportPhase.orders c.self.inside.standings.items c.self.invariant
+    (publishes c.publish.result was now done) (publish_orders c.publish.result was now done) (publish_added _ c.publish.result was now done)

@@ -1,4 +1,4 @@
-use Rattle.std.proofs.Common.{◌≡◌, ◌+◌, ◌++◌, ◌∷◌, [], ℕ, List, Vec, Global, Option, append-nil, append_assoc, ap, arith, get_or, map, refl, sym, take, ◌∙◌}
+use Rattle.std.proofs.Common.{◌≡◌, ◌+◌, ◌++◌, ℕ, List, Vec, Global, Option, append-nil, append_assoc, ap, arith, get_or, map, sym, take, ◌∙◌}
 use Rattle.rank_threads.specs.declared.work.WorkAnswer.{WorkAnswer}
 use Rattle.script_board.specs.declared.dealing.Seat.{Seat}
 use Rattle.script_board.specs.declared.fault.Fault.{Fault}

@@ -1,4 +1,4 @@
-use Rattle.std.proofs.Common.{List, Vec, Global, ◌++◌, map, ◌∙◌}
+use Rattle.std.proofs.Common.{Vec, Global, ◌++◌, map, ◌∙◌}
 use Rattle.rank_threads.specs.declared.work.WorkAnswer.{WorkAnswer}
 use Rattle.script_board.specs.Serve.{refusals, unless_done}
 use Rattle.script_board.proofs.DealingLemmas.{told_in_turn}
