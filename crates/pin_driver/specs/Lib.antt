@@ -1,0 +1,5 @@
+pub mod Driven
+pub mod Exchanges
+pub mod PinPlan
+pub mod Setting
+pub mod Troubles

@@ -1,0 +1,12 @@
+-- What contracts see of a plan of pins.
+use Rattle.std.specs.Prelude.{ℕ, List}
+use Rattle.pin_driver.specs.declared.plan.EarlierPin.{EarlierPin}
+use Rattle.pin_driver.specs.declared.plan.PlannedChange.{PlannedChange}
+
+pub record PlanParts : Type 0 where
+  pub identity : List ℕ
+  pub changes : List PlannedChange
+  pub earlier : List EarlierPin
+
+abbrev pub plan_parts : List ℕ → List PlannedChange → List EarlierPin → PlanParts
+plan_parts identity changes earlier = record { identity = identity; changes = changes; earlier = earlier }

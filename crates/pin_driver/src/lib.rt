@@ -1,0 +1,15 @@
+//! A machine that sets export pins, and takes them back.
+#![tactic(auto)]
+
+pub mod answer;
+pub mod bytes;
+pub mod plan;
+pub mod question;
+pub mod setter;
+pub mod task;
+
+pub use answer::{ClusterState, FoundPin, HostAnswer};
+pub use bytes::Bytes;
+pub use plan::{EarlierPin, PinPlan, PlannedChange};
+pub use question::{Ending, Mark, Question, Trouble};
+pub use task::{Pace, Task};
