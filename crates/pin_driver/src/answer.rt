@@ -1,4 +1,7 @@
 //! What a host answers to a driver.
+ghost use Rattle.std.specs.Prelude.{◌≡◌};
+ghost use Rattle.pin_driver.specs.Exchanges.{is_in_place as is_in_place_answer, named_cluster as cluster_of};
+ghost use Rattle.pin_driver.specs.Setting.{is_gone as is_gone_answer};
 
 use crate::bytes::Bytes;
 use mds_types::Rank;
@@ -44,4 +47,32 @@ pub enum HostAnswer {
     NoAnswer,
     /// Something else was answered.
     Nonsense,
+}
+
+/// The state of the cluster that an answer names.
+pub(crate) fn named_cluster(answer: HostAnswer) -> Option<ClusterState>
+    ensures { result ≡ cluster_of answer }
+{
+    match answer {
+        HostAnswer::Cluster(state) => Some(state),
+        _ => None,
+    }
+}
+
+pub(crate) fn is_in_place(answer: &HostAnswer) -> bool
+    ensures { result ≡ is_in_place_answer answer.now }
+{
+    match answer {
+        HostAnswer::InPlace(is) => *is,
+        _ => false,
+    }
+}
+
+pub(crate) fn is_gone(answer: &HostAnswer) -> bool
+    ensures { result ≡ is_gone_answer answer.now }
+{
+    match answer {
+        HostAnswer::Gone => true,
+        _ => false,
+    }
 }

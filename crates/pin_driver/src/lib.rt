@@ -7,6 +7,7 @@ pub mod plan;
 pub mod question;
 pub mod setter;
 pub mod task;
+mod trouble;
 
 pub use answer::{ClusterState, FoundPin, HostAnswer};
 pub use bytes::Bytes;
