@@ -23,9 +23,9 @@ use Rattle.pin_driver.specs.declared.question.Question.{Question}
 use Rattle.pin_driver.specs.declared.question.Question.TheVariants as questions
 use Rattle.pin_driver.specs.declared.question.Trouble.{Trouble}
 use Rattle.pin_driver.specs.declared.question.Trouble.TheVariants as troubles
-use Rattle.pin_driver.specs.declared.setter.SetterPhase.{SetterPhase}
-use Rattle.pin_driver.specs.declared.setter.SetterPhase.TheVariants as phases
-use Rattle.pin_driver.specs.declared.setter.SetterState.{SetterState}
+use Rattle.pin_driver.specs.declared.setter_state.SetterPhase.{SetterPhase}
+use Rattle.pin_driver.specs.declared.setter_state.SetterPhase.TheVariants as phases
+use Rattle.pin_driver.specs.declared.setter_state.SetterState.{SetterState}
 use Rattle.pin_driver.specs.declared.task.Task.{Task}
 use Rattle.pin_driver.specs.declared.task.TheConstants.{LOOKS, REST_SECONDS}
 use Rattle.pin_driver.proofs.Answers.{stored_answer, set_answer, cluster_answer, get_answer}

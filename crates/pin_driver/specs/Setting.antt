@@ -13,9 +13,9 @@ use Rattle.pin_driver.specs.declared.question.Mark.{Mark}
 use Rattle.pin_driver.specs.declared.question.Question.{Question}
 use Rattle.pin_driver.specs.declared.question.Question.TheVariants as questions
 use Rattle.pin_driver.specs.declared.question.Trouble.{Trouble}
-use Rattle.pin_driver.specs.declared.setter.SetterPhase.{SetterPhase}
-use Rattle.pin_driver.specs.declared.setter.SetterPhase.TheVariants as phases
-use Rattle.pin_driver.specs.declared.setter.SetterState.{SetterState}
+use Rattle.pin_driver.specs.declared.setter_state.SetterPhase.{SetterPhase}
+use Rattle.pin_driver.specs.declared.setter_state.SetterPhase.TheVariants as phases
+use Rattle.pin_driver.specs.declared.setter_state.SetterState.{SetterState}
 use Rattle.pin_driver.specs.declared.task.Task.{Task}
 use Rattle.pin_driver.specs.declared.task.TheConstants.{LOOKS, REST_SECONDS}
 

@@ -6,6 +6,7 @@ pub mod bytes;
 pub mod plan;
 pub mod question;
 pub mod setter;
+pub mod setter_state;
 pub mod task;
 mod trouble;
 

@@ -1,6 +1,6 @@
 use Rattle.std.proofs.Common.{length, ◌-◌, ◌≡◌, ◌+◌, min, drop}
 use Rattle.pin_driver.specs.Setting.{batch_length}
-use Rattle.pin_driver.proofs.setter.batch_end.Given as goal
+use Rattle.pin_driver.proofs.setter_state.batch_end.Given as goal
 
 -- where the batch ends is where it ends from here
 abbrev pub invariant-loop-end : goal.invariant-loop-end

@@ -1,0 +1,10 @@
+-- What contracts see of a setter of pins.
+use Rattle.pin_driver.specs.declared.setter_state.SetterState.{SetterState}
+use Rattle.pin_driver.specs.declared.task.Task.{Task}
+
+pub record SetterParts : Type 0 where
+  pub task : Task
+  pub state : SetterState
+
+abbrev pub setter_parts : Task → SetterState → SetterParts
+setter_parts task state = record { task = task; state = state }
