@@ -14,6 +14,7 @@ use Rattle.pin_driver.specs.declared.question.Question.TheVariants as questions
 use Rattle.pin_driver.specs.declared.question.Trouble.{Trouble}
 use Rattle.pin_driver.specs.declared.task.Task.{Task}
 use Rattle.pin_driver.proofs.Answers.{stored_answer}
+use Rattle.pin_driver.proofs.Texts.{one_text, may_stand}
 
 -- what holds of exchanges without trouble
 pub record Kept (x : Task) (h : List Exchange) : Type 0 where
@@ -25,45 +26,6 @@ pub record Kept (x : Task) (h : List Exchange) : Type 0 where
 pub record Told (x : Task) (h : List Exchange) : Type 0 where
   pub right : AreRightQuestions x h
   pub texts : (mark : Mark) → MayBeStored x.first h mark → IsTextOf x h mark
-
--- without a trouble one text is stored
-one_text_more : (x : Task) (q : Question) (a : HostAnswer) (h : List Exchange) (mark : Mark) →
-    trouble_after (unlike_plan x) x h (record { asked = q; answer = a }) ≡ None →
-    (MayBeStored x.first h mark → mark ≡ standing_mark x.first (last_stored h)) →
-    MayStand q a mark (MayBeStored x.first h mark) → mark ≡ standing_mark x.first (stored_mark q a (last_stored h))
-one_text_more x (questions.Store asked) answers.Stored h mark none before m = m
-one_text_more x (questions.Store asked) (answers.Found d) h mark none before m = absurd cc
-one_text_more x (questions.Store asked) (answers.Cluster c) h mark none before m = absurd cc
-one_text_more x (questions.Store asked) (answers.InPlace b) h mark none before m = absurd cc
-one_text_more x (questions.Store asked) answers.Waited h mark none before m = absurd cc
-one_text_more x (questions.Store asked) answers.Done h mark none before m = absurd cc
-one_text_more x (questions.Store asked) answers.Gone h mark none before m = absurd cc
-one_text_more x (questions.Store asked) answers.Refused h mark none before m = absurd cc
-one_text_more x (questions.Store asked) answers.NoAnswer h mark none before m = absurd cc
-one_text_more x (questions.Store asked) answers.Nonsense h mark none before m = absurd cc
-one_text_more x (questions.Wait n) a h mark none before m = before m
-one_text_more x questions.Cluster a h mark none before m = before m
-one_text_more x (questions.Get i) a h mark none before m = before m
-one_text_more x (questions.Set i pin) a h mark none before m = before m
-one_text_more x questions.Roots a h mark none before m = before m
-one_text_more x (questions.End ending) a h mark none before m = before m
-
-pub one_text : (x : Task) (h : List Exchange) (mark : Mark) → IsCalm (unlike_plan x) x h → MayBeStored x.first h mark →
-    mark ≡ standing_mark x.first (last_stored h)
-one_text x [] mark calm m = m
-one_text x (e ∷ h) mark calm m = one_text_more x e.asked e.answer h mark calm.0 (one_text x h mark calm.1) m
-
-may_stand : (asked mark : Mark) (a : HostAnswer) (P : Type 0) → MayStand (questions.Store asked) a mark P → (mark ≡ asked) ⊎ P
-may_stand asked mark answers.Stored P m = inl m
-may_stand asked mark (answers.Found d) P m = m
-may_stand asked mark (answers.Cluster c) P m = m
-may_stand asked mark (answers.InPlace b) P m = m
-may_stand asked mark answers.Waited P m = m
-may_stand asked mark answers.Done P m = m
-may_stand asked mark answers.Gone P m = m
-may_stand asked mark answers.Refused P m = m
-may_stand asked mark answers.NoAnswer P m = m
-may_stand asked mark answers.Nonsense P m = m
 
 -- a set is one of a change that the stored text names
 pub set_named : (x : Task) (h : List Exchange) (i j : ℕ) (pin : Option ℕ) (change : PlannedChange) →
@@ -116,14 +78,14 @@ keeps x q a h kept none right =
     record { right = (right, kept.right); calm = (none, kept.calm); text = text_more x q a h kept none right }
 
 old_text : (x : Task) (h : List Exchange) (mark : Mark) → Kept x h → MayBeStored x.first h mark → IsTextOf x h mark
-old_text x h mark kept m = rw (one_text x h mark kept.calm m) kept.text
+old_text x h mark kept m = rw (one_text (unlike_plan x) x h mark kept.calm m) kept.text
 
 -- whatever the answer is, each text that may be stored names each change that was set
 texts_more : (x : Task) (q : Question) (a : HostAnswer) (h : List Exchange) → Kept x h → IsRightQuestion x q h →
     (mark : Mark) → MayStand q a mark (MayBeStored x.first h mark) → IsTextOf x (record { asked = q; answer = a } ∷ h) mark
 texts_more x (questions.Set j pin) a h kept right mark m =
     same_text x (questions.Set j pin) a h mark (old_text x h mark kept m)
-    (λ i e. rw (one_text x h mark kept.calm m) (set_named x h i j pin right.0 right.1 e))
+    (λ i e. rw (one_text (unlike_plan x) x h mark kept.calm m) (set_named x h i j pin right.0 right.1 e))
 texts_more x (questions.Store asked) a h kept right mark m = elim (may_stand asked mark a (MayBeStored x.first h mark) m) [
   | inl new ↦ rw new (new_text x asked a h kept right)
   | inr old ↦ same_text x (questions.Store asked) a h mark (old_text x h mark kept old) (λ i e. absurd e)
@@ -145,4 +107,4 @@ pub next_named : (x : Task) (q : Question) (h : List Exchange) (mark : Mark) (i 
     MayBeStored x.first h mark → q ≡ questions.Set i pin → i < mark.begun
 next_named x q h mark i pin kept right m e =
     let set : (change : PlannedChange) × IsRightSet x i pin change h = subst (λ (p : Question). IsRightQuestion x p h) e right in
-    rw (one_text x h mark kept.calm m) (set_named x h i i pin set.0 set.1 refl)
+    rw (one_text (unlike_plan x) x h mark kept.calm m) (set_named x h i i pin set.0 set.1 refl)

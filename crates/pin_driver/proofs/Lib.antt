@@ -1,3 +1,6 @@
 pub mod Answers
 pub mod Kept
+pub mod KeptBack
+pub mod Restoring
 pub mod Setting
+pub mod Texts

@@ -1,6 +1,9 @@
 pub mod Driven
 pub mod Exchanges
 pub mod PinPlan
+pub mod Restored
+pub mod RestorerParts
+pub mod Restoring
 pub mod SetterParts
 pub mod Setting
 pub mod Troubles

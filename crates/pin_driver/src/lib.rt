@@ -5,6 +5,8 @@ pub mod answer;
 pub mod bytes;
 pub mod plan;
 pub mod question;
+pub mod restorer;
+pub mod restorer_state;
 pub mod setter;
 pub mod setter_state;
 pub mod task;
