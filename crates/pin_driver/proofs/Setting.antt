@@ -218,12 +218,12 @@ opens x s h a i none kept =
     })
     (found.0, ap named_cluster found.1) (ap (standing_mark x.first) i.1.stored ∙ sym i.1.mark) i.1.looks
 
-or_nothing : (c : Option ClusterState) → or_later c None ≡ c
+pub or_nothing : (c : Option ClusterState) → or_later c None ≡ c
 or_nothing None = refl
 or_nothing (Some c) = refl
 
 -- the state stays known
-stays : (c first : Option ClusterState) (s : Option ClusterState) → first ≡ s → (k : ClusterState) × (s ≡ Some k) → or_later first c ≡ s
+pub stays : (c first : Option ClusterState) (s : Option ClusterState) → first ≡ s → (k : ClusterState) × (s ≡ Some k) → or_later first c ≡ s
 stays c first s e known =
     ap (λ (o : Option ClusterState). or_later o c) (e ∙ known.1) ∙ sym known.1
 
@@ -298,13 +298,13 @@ passes x s h k live to kept cluster waits looks places stored =
     )
 
 -- a directory without trouble is as planned
-same_pin : (a b : Option ℕ) → is_same_pin a b ≡ true → a ≡ b
+pub same_pin : (a b : Option ℕ) → is_same_pin a b ≡ true → a ≡ b
 same_pin None None e = refl
 same_pin (Some a) (Some b) e = ap Some (eqb-true a b e)
 same_pin None (Some b) e = absurd cc
 same_pin (Some a) None e = absurd cc
 
-same_inode : (inode : Option ℕ) (found : ℕ) → is_inode inode found ≡ true → IfSome inode (λ n. found ≡ n)
+pub same_inode : (inode : Option ℕ) (found : ℕ) → is_inode inode found ≡ true → IfSome inode (λ n. found ≡ n)
 same_inode None found e = tt
 same_inode (Some inode) found e = sym (eqb-true inode found e)
 
@@ -312,11 +312,11 @@ no_trouble : (b : Bool) (t : Trouble) (o : Option Trouble) → cond (not b) (Som
 no_trouble true t o e = (refl, e)
 no_trouble false t o e = absurd cc
 
-either : (a b : Bool) → (a || b) ≡ true → (a ≡ true) ⊎ (b ≡ true)
+pub either : (a b : Bool) → (a || b) ≡ true → (a ≡ true) ⊎ (b ≡ true)
 either true b e = inl refl
 either false b e = inr e
 
-both : (a b : Bool) → (a && b) ≡ true → (a ≡ true) × (b ≡ true)
+pub both : (a b : Bool) → (a && b) ≡ true → (a ≡ true) × (b ≡ true)
 both true b e = (refl, e)
 both false b e = absurd cc
 
