@@ -1,7 +1,8 @@
 -- What each exchange keeps.
 use Rattle.std.proofs.Common.{◌≡◌, ◌⊎◌, ℕ, suc, ◌<◌, ◌≤◌, Option, Some, None, List, [], ◌∷◌, refl, sym, ap, ◌∙◌, subst, inl, inr, arith}
-use Rattle.pin_driver.specs.Driven.{IsRightQuestion, AreRightQuestions, IsRightStore, IsRightSet, IsTextOf, standing_mark}
-use Rattle.pin_driver.specs.Exchanges.{Exchange, trouble_after, IsCalm, last_stored, stored_mark, first_cluster, waited, WasSet, IsSetAt, MayBeStored, MayStand}
+use Rattle.std.proofs.lemmas.Bool.{cases_lt}
+use Rattle.pin_driver.specs.Driven.{IsRightQuestion, AreRightQuestions, IsRightStore, IsRightSet, IsTextOf, AreInPlace, standing_mark, settled, settled_more}
+use Rattle.pin_driver.specs.Exchanges.{Exchange, trouble_after, IsCalm, last_stored, stored_mark, first_cluster, waited, WasSet, IsSetAt, MayBeStored, MayStand, IsListed}
 use Rattle.pin_driver.specs.Troubles.{unlike_plan, store_trouble}
 use Rattle.pin_driver.specs.declared.answer.HostAnswer.{HostAnswer}
 use Rattle.pin_driver.specs.declared.answer.HostAnswer.TheVariants as answers
@@ -14,6 +15,7 @@ use Rattle.pin_driver.specs.declared.question.Question.TheVariants as questions
 use Rattle.pin_driver.specs.declared.question.Trouble.{Trouble}
 use Rattle.pin_driver.specs.declared.task.Task.{Task}
 use Rattle.pin_driver.proofs.Answers.{stored_answer}
+use Rattle.pin_driver.proofs.Places.{descends_lists}
 use Rattle.pin_driver.proofs.Texts.{one_text, may_stand}
 
 -- what holds of exchanges without trouble
@@ -34,11 +36,55 @@ set_named x h i j pin change right e =
     let was : last_stored h ≡ Some right.stored.0 = right.stored.1 in
     rw was (omega (arith, right.stored.2, e))
 
+-- what is settled stays so
+listed_more : (q : Question) (a : HostAnswer) (places : List ℕ) (i : ℕ) → IsListed i places → IsListed i (settled_more q a places)
+listed_more (questions.Set j pin) answers.Done places i l = inr l
+listed_more (questions.Set j pin) answers.Gone places i l = inr l
+listed_more (questions.Set j pin) answers.Waited places i l = l
+listed_more (questions.Set j pin) (answers.Cluster c) places i l = l
+listed_more (questions.Set j pin) answers.Stored places i l = l
+listed_more (questions.Set j pin) (answers.Found d) places i l = l
+listed_more (questions.Set j pin) (answers.InPlace b) places i l = l
+listed_more (questions.Set j pin) answers.Refused places i l = l
+listed_more (questions.Set j pin) answers.NoAnswer places i l = l
+listed_more (questions.Set j pin) answers.Nonsense places i l = l
+listed_more (questions.Get j) answers.Gone places i l = inr l
+listed_more (questions.Get j) answers.Waited places i l = l
+listed_more (questions.Get j) (answers.Cluster c) places i l = l
+listed_more (questions.Get j) answers.Stored places i l = l
+listed_more (questions.Get j) (answers.Found d) places i l = l
+listed_more (questions.Get j) answers.Done places i l = l
+listed_more (questions.Get j) (answers.InPlace b) places i l = l
+listed_more (questions.Get j) answers.Refused places i l = l
+listed_more (questions.Get j) answers.NoAnswer places i l = l
+listed_more (questions.Get j) answers.Nonsense places i l = l
+listed_more (questions.Wait n) a places i l = l
+listed_more questions.Cluster a places i l = l
+listed_more (questions.Store mark) a places i l = l
+listed_more questions.Roots a places i l = l
+listed_more (questions.End ending) a places i l = l
+
+sure_more : (x : Task) (q : Question) (a : HostAnswer) (h : List Exchange) (i : ℕ) → (i < x.first.certain) ⊎ IsListed i (settled h) →
+    (i < x.first.certain) ⊎ IsListed i (settled (record { asked = q; answer = a } ∷ h))
+sure_more x q a h i sure = elim sure [ inl old ↦ inl old | inr new ↦ inr (listed_more q a (settled h) i new) ]
+
+-- what a right store says is certain
+sure_store : (x : Task) (mark : Mark) (h : List Exchange) → Kept x h → IsRightStore x mark h → (i : ℕ) → i < mark.certain →
+    (i < x.first.certain) ⊎ IsListed i (settled h)
+sure_store x mark h kept right i lt = elim right.certain [
+  | inl same ↦ kept.text.sure i (omega (arith, lt, same))
+  | inr in_place ↦
+    elim (cases_lt i x.first.certain) [
+      | inl old ↦ inl old
+      | inr le ↦ inr (descends_lists mark.certain x.first.certain (settled h) in_place.order i lt le)
+    ]
+]
+
 -- after a question that is no store the same text stands
 same_text : (x : Task) (q : Question) (a : HostAnswer) (h : List Exchange) (mark : Mark) →
     IsTextOf x h mark → ((i : ℕ) → IsSetAt q i → i < mark.begun) → IsTextOf x (record { asked = q; answer = a } ∷ h) mark
 same_text x q a h mark text named =
-    record { sound = text.sound; grown = text.grown; ours = λ i w. elim w [ inl e ↦ named i e | inr was ↦ text.ours i was ] }
+    record { sound = text.sound; grown = text.grown; ours = λ i w. elim w [ inl e ↦ named i e | inr was ↦ text.ours i was ]; sure = λ i lt. sure_more x q a h i (text.sure i lt) }
 
 -- a text that is stored names what the one before it names
 new_text : (x : Task) (mark : Mark) (a : HostAnswer) (h : List Exchange) → Kept x h → IsRightStore x mark h →
@@ -48,6 +94,7 @@ new_text x mark a h kept right =
       sound = right.sound;
       grown = omega (arith, kept.text.grown, right.grows);
       ours = λ i w. elim w [ inl e ↦ absurd e | inr was ↦ omega (arith, kept.text.ours i was, right.grows) ];
+      sure = λ i lt. sure_more x (questions.Store mark) a h i (sure_store x mark h kept right i lt);
     }
 
 text_more : (x : Task) (q : Question) (a : HostAnswer) (h : List Exchange) → Kept x h →

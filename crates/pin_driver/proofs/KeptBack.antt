@@ -2,8 +2,8 @@
 use Rattle.std.proofs.Common.{◌≡◌, ◌⊎◌, ℕ, suc, ◌<◌, ◌≤◌, Bool, true, false, cond, Option, Some, None, List, [], ◌∷◌, refl, sym, ap, ◌∙◌, subst, inl, inr, arith}
 use Rattle.std.proofs.lemmas.Bool.{cases_lt}
 use Rattle.pin_driver.specs.Driven.{standing_mark}
-use Rattle.pin_driver.specs.Exchanges.{Exchange, trouble_after, IsCalm, last_stored, stored_mark, WasSet, IsSetAt, MayBeStored, MayStand, Ascends}
-use Rattle.pin_driver.specs.Restored.{IsRightBackQuestion, AreRightBackQuestions, IsRightNote, IsRightReturn, IsBackText, IsListed, put_right, put_right_more}
+use Rattle.pin_driver.specs.Exchanges.{Exchange, trouble_after, IsCalm, last_stored, stored_mark, WasSet, IsSetAt, MayBeStored, MayStand, Ascends, IsListed}
+use Rattle.pin_driver.specs.Restored.{IsRightBackQuestion, AreRightBackQuestions, IsRightNote, IsRightReturn, IsBackText, put_right, put_right_more}
 use Rattle.pin_driver.specs.Restoring.{any_directory, doubtful_mark, no_mark, restorable_at}
 use Rattle.pin_driver.specs.declared.answer.HostAnswer.{HostAnswer}
 use Rattle.pin_driver.specs.declared.answer.HostAnswer.TheVariants as answers
@@ -15,6 +15,7 @@ use Rattle.pin_driver.specs.declared.question.Question.TheVariants as questions
 use Rattle.pin_driver.specs.declared.question.Trouble.{Trouble}
 use Rattle.pin_driver.specs.declared.task.Task.{Task}
 use Rattle.pin_driver.proofs.Answers.{stored_answer}
+use Rattle.pin_driver.proofs.Places.{ascends_lists}
 use Rattle.pin_driver.proofs.Texts.{one_text, may_stand}
 
 -- what holds of exchanges without trouble
@@ -59,13 +60,6 @@ listed_more x questions.Cluster a places i l = l
 listed_more x (questions.Store mark) a places i l = l
 listed_more x questions.Roots a places i l = l
 listed_more x (questions.End ending) a places i l = l
-
-pub ascends_lists : (from to : ℕ) (places : List ℕ) → Ascends from to places → (i : ℕ) → from ≤ i → i < to → IsListed i places
-ascends_lists from to [] up i low high = absurd (omega (arith, up))
-ascends_lists from to (place ∷ places) up i low high = elim (cases_lt from i) [
-  | inl more ↦ inr (ascends_lists (suc place) to places up.1 i (omega (arith, up.0)) high)
-  | inr here ↦ inl (omega (arith, up.0))
-]
 
 -- after a question that is no store the same text stands
 same_text : (x : Task) (q : Question) (a : HostAnswer) (h : List Exchange) (mark : Mark) →

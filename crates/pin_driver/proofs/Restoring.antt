@@ -347,3 +347,20 @@ pub returns : (x : Task) (more : List HostAnswer) →
 returns x more =
     let end : RestorerState × List Exchange = restorer_run x (restorer_start x) [] more in
     returns_in end.0.phase x end.0 end.1 (runs x (restorer_start x) [] more (starts x))
+
+-- an end stays
+stays_in : (p : RestorerPhase) (x : Task) (s : RestorerState) (a : HostAnswer) → restorer_ended p ≡ true →
+    (trouble any_directory s.cluster x.pace.longest_wait (restorer_question_in p x s) a ≡ None) × (restorer_advanced p x s a ≡ s)
+stays_in phases.Resting x s a e = absurd cc
+stays_in phases.Opening x s a e = absurd cc
+stays_in phases.Noting x s a e = absurd cc
+stays_in phases.Checking x s a e = absurd cc
+stays_in phases.Getting x s a e = absurd cc
+stays_in phases.Restoring x s a e = absurd cc
+stays_in phases.Closing x s a e = absurd cc
+stays_in (phases.Ended ending) x s a e = (refl, refl)
+
+pub restorer_stays : (x : Task) (s : RestorerState) (a : HostAnswer) → restorer_ended s.phase ≡ true → restorer_after x s a ≡ s
+restorer_stays x s a e =
+    let none : restorer_trouble x s a ≡ None = (stays_in s.phase x s a e).0 in
+    ap (λ (v : Option Trouble). restorer_verdict v x s a) none ∙ (stays_in s.phase x s a e).1

@@ -572,7 +572,7 @@ starts x mark = elim (cases_lt x.first.certain x.first.begun) [
   where
     live : (p : SetterPhase) → Live x (record (setter_start x) { phase = p }) []
     live p = record {
-      kept = record { right = tt; calm = tt; text = record { sound = mark; grown = omega arith; ours = λ i w. absurd w } };
+      kept = record { right = tt; calm = tt; text = record { sound = mark; grown = omega arith; ours = λ i w. absurd w; sure = λ i lt. inl lt } };
       cluster = refl;
       left = grind arith;
       looks = refl;
@@ -588,3 +588,22 @@ pub drives : (x : Task) (more : List HostAnswer) → IsMark x.first (length x.pl
 drives x more mark =
     let end : SetterState × List Exchange = setter_run x (setter_start x) [] more in
     drives_in end.0.phase x end.0 end.1 (runs x (setter_start x) [] more (starts x mark))
+
+-- an end stays
+stays_in : (p : SetterPhase) (x : Task) (s : SetterState) (a : HostAnswer) → has_ended p ≡ true →
+    (trouble (unlike_plan x) s.cluster s.left (question_in p x s) a ≡ None) × (advanced p x s a ≡ s)
+stays_in phases.Resting x s a e = absurd cc
+stays_in phases.Opening x s a e = absurd cc
+stays_in phases.Noting x s a e = absurd cc
+stays_in phases.Checking x s a e = absurd cc
+stays_in phases.Getting x s a e = absurd cc
+stays_in phases.Setting x s a e = absurd cc
+stays_in phases.Looking x s a e = absurd cc
+stays_in phases.Pausing x s a e = absurd cc
+stays_in phases.Closing x s a e = absurd cc
+stays_in (phases.Ended ending) x s a e = (refl, refl)
+
+pub setter_stays : (x : Task) (s : SetterState) (a : HostAnswer) → has_ended s.phase ≡ true → setter_after x s a ≡ s
+setter_stays x s a e =
+    let none : setter_trouble x s a ≡ None = (stays_in s.phase x s a e).0 in
+    ap (λ (v : Option Trouble). after_verdict v x s a) none ∙ (stays_in s.phase x s a e).1

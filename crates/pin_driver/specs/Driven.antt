@@ -1,6 +1,6 @@
 -- What holds of all that a setter asks, whatever is answered.
 use Rattle.std.specs.Prelude.{◌≡◌, ◌⊎◌, ℕ, ◌<◌, ◌≤◌, List, [], ◌∷◌, length, slice_get, Option, Some, None, IfSome}
-use Rattle.pin_driver.specs.Exchanges.{Exchange, trouble_after, last_stored, looks_in_place, Descends, IsCalm, MayBeStored, WasSet}
+use Rattle.pin_driver.specs.Exchanges.{Exchange, trouble_after, last_stored, looks_in_place, Descends, IsListed, IsCalm, MayBeStored, WasSet}
 use Rattle.pin_driver.specs.Troubles.{unlike_plan}
 use Rattle.pin_driver.specs.declared.answer.FoundPin.{FoundPin}
 use Rattle.pin_driver.specs.declared.answer.HostAnswer.{HostAnswer}
@@ -107,6 +107,8 @@ pub record IsTextOf (x : Task) (h : List Exchange) (mark : Mark) : Type 0 where
   pub sound : IsMark mark (length x.plan.changes)
   pub grown : x.first.begun ≤ mark.begun
   pub ours : (i : ℕ) → WasSet h i → i < mark.begun
+  -- what it says is certain was so at the begin, or is settled
+  pub sure : (i : ℕ) → i < mark.certain → (i < x.first.certain) ⊎ IsListed i (settled h)
 
 -- what holds of the exchanges of a run and of what is asked next
 pub record IsDriven (x : Task) (h : List Exchange) (asked : Question) : Type 0 where

@@ -92,11 +92,17 @@ abbrev pub Ascends : ℕ → ℕ → List ℕ → Type 0
 Ascends from to [] = from ≡ to
 Ascends from to (place ∷ places) = (from ≡ place) × Ascends (suc place) to places
 
--- some set of the change at this place was asked
+-- the place is in the list
+abbrev pub IsListed : ℕ → List ℕ → Type 0
+IsListed i [] = ⊥
+IsListed i (place ∷ places) = (place ≡ i) ⊎ IsListed i places
+
+-- a question sets the pin of the change at this place
 abbrev pub IsSetAt : Question → ℕ → Type 0
 IsSetAt (questions.Set place pin) i = place ≡ i
 IsSetAt _ i = ⊥
 
+-- it was asked to set the pin of the change at this place
 abbrev pub WasSet : List Exchange → ℕ → Type 0
 WasSet [] i = ⊥
 WasSet (e ∷ h) i = IsSetAt e.asked i ⊎ WasSet h i

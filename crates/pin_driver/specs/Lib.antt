@@ -4,6 +4,7 @@ pub mod PinPlan
 pub mod Restored
 pub mod RestorerParts
 pub mod Restoring
+pub mod Sessions
 pub mod SetterParts
 pub mod Setting
 pub mod Troubles

@@ -1,7 +1,7 @@
 -- What holds of all that a restorer asks, whatever is answered.
 use Rattle.std.specs.Prelude.{◌≡◌, ◌⊎◌, ℕ, suc, ◌<◌, ◌≤◌, Bool, true, false, not, List, [], ◌∷◌, length, slice_get, Option, Some, None, IfSome, if◌then◌else◌}
 use Rattle.pin_driver.specs.Driven.{IsMark}
-use Rattle.pin_driver.specs.Exchanges.{Exchange, trouble_after, last_stored, Ascends, IsCalm, MayBeStored, WasSet}
+use Rattle.pin_driver.specs.Exchanges.{Exchange, trouble_after, last_stored, Ascends, IsListed, IsCalm, MayBeStored, WasSet}
 use Rattle.pin_driver.specs.Restoring.{any_directory, doubtful_mark, no_mark, restorable_at}
 use Rattle.pin_driver.specs.declared.answer.FoundPin.{FoundPin}
 use Rattle.pin_driver.specs.declared.answer.HostAnswer.{HostAnswer}
@@ -88,11 +88,6 @@ IsRightBackQuestion x _ h = Unit {0}
 abbrev pub AreRightBackQuestions : Task → List Exchange → Type 0
 AreRightBackQuestions x [] = Unit {0}
 AreRightBackQuestions x (e ∷ h) = IsRightBackQuestion x e.asked h × AreRightBackQuestions x h
-
--- the place is in the list
-abbrev pub IsListed : ℕ → List ℕ → Type 0
-IsListed i [] = ⊥
-IsListed i (place ∷ places) = (place ≡ i) ⊎ IsListed i places
 
 -- a text that may be the one that is stored after these exchanges: it names each begun change that is not put right, and
 -- says of no change that it is certain unless it is the text of the begin

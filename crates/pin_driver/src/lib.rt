@@ -3,6 +3,7 @@
 
 pub mod answer;
 pub mod bytes;
+pub mod laws;
 pub mod plan;
 pub mod question;
 pub mod restorer;
