@@ -7,4 +7,6 @@ pub mod Restoring
 pub mod Sessions
 pub mod SetterParts
 pub mod Setting
+pub mod StoredReading
+pub mod StoredText
 pub mod Troubles

@@ -3,6 +3,7 @@
 
 pub mod answer;
 pub mod bytes;
+mod fields;
 pub mod laws;
 pub mod plan;
 pub mod question;
@@ -11,6 +12,7 @@ pub mod restorer_state;
 pub mod setter;
 pub mod setter_state;
 pub mod task;
+pub mod text_error;
 mod trouble;
 
 pub use answer::{ClusterState, FoundPin, HostAnswer};
@@ -18,3 +20,4 @@ pub use bytes::Bytes;
 pub use plan::{EarlierPin, PinPlan, PlannedChange};
 pub use question::{Ending, Mark, Question, Trouble};
 pub use task::{Pace, Task};
+pub use text_error::TextError;
