@@ -1,6 +1,8 @@
 pub mod Answers
+pub mod FieldsAgain
 pub mod Kept
 pub mod KeptBack
+pub mod Many
 pub mod Places
 pub mod Restoring
 pub mod Sessions
