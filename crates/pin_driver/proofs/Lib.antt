@@ -3,8 +3,10 @@ pub mod FieldsAgain
 pub mod Kept
 pub mod KeptBack
 pub mod Many
+pub mod Parsing
 pub mod Places
 pub mod Restoring
 pub mod Sessions
 pub mod Setting
+pub mod StoredAgain
 pub mod Texts

@@ -1,6 +1,6 @@
 -- How a stored text is read: fields one by one from the front. The reader compares the text with the one that is written
 -- of what was read, so `stored_text` says what it takes.
-use Rattle.std.specs.Prelude.{◌≡◌, ⊤, ℕ, zero, suc, ◌+◌, ◌-◌, ◌*◌, ◌^◌, ◌==◌, Bool, ◌&&◌, ◌||◌, nat_lt, nat_le, List, [], ◌∷◌, ◌++◌}
+use Rattle.std.specs.Prelude.{◌≡◌, ◌≢◌, ⊤, ℕ, zero, suc, ◌+◌, ◌-◌, ◌*◌, ◌^◌, ◌==◌, Bool, ◌&&◌, ◌||◌, nat_lt, nat_le, List, [], ◌∷◌, ◌++◌}
 use Rattle.std.specs.Prelude.{length, codes, slice_index, Option, Some, None, Result, Ok, Err, is_some, option_map, option_and_then, if◌then◌else◌}
 use Rattle.std.specs.Borrow.{Bor}
 use Rattle.std.specs.List.{after_first, before_first}
@@ -163,3 +163,16 @@ FailsAs Form read = read ≡ None
 abbrev pub FindsAs : {A B : Type 0} → (A → B) → Result (A × Bor (List ℕ)) TextError → Option (B × List ℕ) → Type 0
 FindsAs view (Ok found) read = read ≡ Some (view found.0, found.1.now)
 FindsAs view (Err error) read = FailsAs error read
+
+-- what is left after the first line, whose version is 1; or why there is none
+abbrev pub HasVersion : Result (Bor (List ℕ)) TextError → Option (ℕ × List ℕ) → Type 0
+HasVersion (Ok rest) read = read ≡ Some (1, rest.now)
+HasVersion (Err Memory) read = ⊥
+HasVersion (Err (Version n)) read = (n ≢ 1) × ((more : List ℕ) × (read ≡ Some (n, more)))
+HasVersion (Err Form) read = read ≡ None
+
+-- the error is that memory was refused
+abbrev pub IsOutOfMemory : TextError → Type 0
+IsOutOfMemory Memory = ⊤
+IsOutOfMemory (Version n) = ⊥
+IsOutOfMemory Form = ⊥

@@ -49,18 +49,18 @@ abbrev pub mark_text : Mark → List ℕ
 mark_text mark = field_text (codes "mark") ++ field_text (decimal mark.begun) ++ last_text (decimal mark.certain)
 
 -- the first line, with the version of the text
-abbrev pub version_text : ℕ → List ℕ
+unfoldable pub version_text : ℕ → List ℕ
 version_text version = count_text (codes "mdbal_pins") version
 
 -- what follows the first line
-abbrev pub body_text : PlanParts → Mark → List ℕ
+unfoldable pub body_text : PlanParts → Mark → List ℕ
 body_text plan mark =
     field_text (codes "plan") ++ last_text (kept_bytes plan.identity) ++ mark_text mark
     ++ count_text (codes "changes") (length plan.changes) ++ flat_map change_text plan.changes
     ++ count_text (codes "pins") (length plan.earlier) ++ flat_map earlier_text plan.earlier ++ last_text (codes "end")
 
 -- the text of a plan with this mark
-abbrev pub stored_text : PlanParts → Mark → List ℕ
+unfoldable pub stored_text : PlanParts → Mark → List ℕ
 stored_text plan mark = version_text 1 ++ body_text plan mark
 
 abbrev pub AreBytes : List ℕ → Type 0

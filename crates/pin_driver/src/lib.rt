@@ -21,7 +21,7 @@ pub use answer::{ClusterState, FoundPin, HostAnswer};
 pub use bytes::Bytes;
 pub use plan::{EarlierPin, PinPlan, PlannedChange};
 pub use question::{Ending, Mark, Question, Trouble};
-pub use stored_reader::StoredPlan;
+pub use stored_reader::{StoredPlan, read_stored};
 pub use stored_writer::stored_text;
 pub use task::{Pace, Task};
 pub use text_error::TextError;

@@ -1,7 +1,8 @@
 //! Reading the text that is stored of a plan.
-ghost use Rattle.std.specs.Prelude.{◌≡◌, ◌≢◌, ◌<◌, ◌^◌, ◌++◌, ℕ, List, IfOk, MatchResult, Err, length, option_map};
+ghost use Rattle.std.specs.Prelude.{◌≡◌, ◌≢◌, ◌<◌, ◌^◌, ◌++◌, ℕ, List, Err, IfErr, IfOk, MatchResult, OnOk, codes, length, true};
 ghost use Rattle.pin_driver.specs.Driven.{IsMark};
 ghost use Rattle.pin_driver.specs.PinPlan.{PlanParts};
+ghost use Rattle.pin_driver.specs.StoredReading.{HasVersion, IsOutOfMemory};
 ghost use Rattle.pin_driver.specs.StoredReading.{FindsAs, found_view, read_body, read_change, read_changes};
 ghost use Rattle.pin_driver.specs.StoredReading.{read_count, read_earlier, read_identity, read_many, read_mark, read_pins};
 ghost use Rattle.pin_driver.specs.StoredText.{FitsText, stored_text as text_of, version_text};
@@ -12,7 +13,7 @@ use crate::bytes::Bytes;
 use crate::fields::{bytes, number, optional_number, optional_rank, rank, word};
 use crate::plan::{EarlierPin, PinPlan, PlannedChange};
 use crate::question::Mark;
-use crate::stored_writer::{VERSION, stored_text};
+use crate::stored_writer::stored_text;
 use crate::text_error::TextError;
 use std::alloc::Global;
 
@@ -188,4 +189,88 @@ fn body(alloc: Global, text: &[u8]) -> Result<(StoredPlan, &[u8]), TextError>
     };
     let plan = PinPlan::new(identity, changes, pins);
     Ok((StoredPlan { plan, mark }, rest))
+}
+
+/// The number of the first line.
+#[tactic(auto, unfolding(crate::specs::StoredReading::read_count))]
+fn version(text: &[u8]) -> Option<(u64, &[u8])>
+    ensures { found_view (λ n. n) result ≡ read_count (codes "mdbal_pins") text.now }
+{
+    let rest = word(text, b"mdbal_pins")?;
+    number(rest)
+}
+
+/// What follows the first line, if that has version 1.
+fn after_version(text: &[u8]) -> Result<&[u8], TextError>
+    ensures { HasVersion result (read_count (codes "mdbal_pins") text.now) }
+{
+    match version(text) {
+        None => Err(TextError::Form),
+        Some((1, rest)) => Ok(rest),
+        Some((other, _)) => Err(TextError::Version(other)),
+    }
+}
+
+/// Whether the mark is one of a plan with this many changes.
+fn is_mark(mark: Mark, changes: usize) -> bool
+    ensures sound { result ≡ true → IsMark mark changes }
+    ensures complete { IsMark mark changes → result ≡ true }
+{
+    mark.begun <= changes && mark.certain <= mark.begun
+}
+
+/// What a text says, if it is written in any way that can be read.
+fn parse(alloc: Global, text: &[u8]) -> Result<StoredPlan, TextError>
+    ensures again { (plan : PlanParts) (mark : MarkOf) → FitsText plan mark → text.now ≡ text_of plan mark →
+        MatchResult result (λ found. (found.plan ≡ plan) × (found.mark ≡ mark)) IsOutOfMemory }
+    ensures newer { (number : ℕ) (more : List ℕ) → number < 2 ^ 64 → number ≢ 1 →
+        text.now ≡ version_text number ++ more → result ≡ Err (errors.Version number) }
+{
+    match after_version(text) {
+        Err(error) => Err(error),
+        Ok(rest) => match body(alloc, rest) {
+            Ok((found, _)) => Ok(found),
+            Err(error) => Err(error),
+        },
+    }
+}
+
+/// What was read of a text, if that is written just so.
+fn checked(alloc: Global, text: &[u8], found: StoredPlan) -> Result<StoredPlan, TextError>
+    ensures found { IfOk result (λ kept. kept ≡ found) }
+    ensures same { OnOk result (text.now ≡ text_of found.plan found.mark) }
+    ensures sound { OnOk result (IsMark found.mark (length found.plan.changes)) }
+    ensures right { text.now ≡ text_of found.plan found.mark → IsMark found.mark (length found.plan.changes) →
+        IfErr result IsOutOfMemory }
+{
+    if !is_mark(found.mark, found.plan.changes().len()) {
+        return Err(TextError::Form);
+    }
+    let Ok(written) = stored_text(alloc, &found.plan, found.mark) else {
+        return Err(TextError::Memory);
+    };
+    if written.as_slice() == text {
+        Ok(found)
+    } else {
+        Err(TextError::Form)
+    }
+}
+
+/// Reads what `stored_text` wrote. The text is all of it.
+pub fn read_stored(alloc: Global, text: &[u8]) -> Result<StoredPlan, TextError>
+    // What is read is written so.
+    ensures same { IfOk result (λ found. text.now ≡ text_of found.plan found.mark) }
+    ensures sound { IfOk result (λ found. IsMark found.mark (length found.plan.changes)) }
+    // What is written is read again, unless memory is refused.
+    ensures again { (plan : PlanParts) (mark : MarkOf) → FitsText plan mark → IsMark mark (length plan.changes) →
+        text.now ≡ text_of plan mark →
+        MatchResult result (λ found. (found.plan ≡ plan) × (found.mark ≡ mark)) IsOutOfMemory }
+    // A text of another version is refused for that.
+    ensures newer { (number : ℕ) (more : List ℕ) → number < 2 ^ 64 → number ≢ 1 →
+        text.now ≡ version_text number ++ more → result ≡ Err (errors.Version number) }
+{
+    match parse(alloc, text) {
+        Err(error) => Err(error),
+        Ok(found) => checked(alloc, text, found),
+    }
 }

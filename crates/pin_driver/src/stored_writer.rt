@@ -154,6 +154,7 @@ fn push_pins(alloc: Global, text: &mut Vec<u8>, pins: &[EarlierPin]) -> Result<(
 }
 
 /// The text of a plan with this mark.
+#[tactic(auto, unfolding(crate::specs::StoredText::stored_text, crate::specs::StoredText::body_text, crate::specs::StoredText::version_text))]
 pub fn stored_text(alloc: Global, plan: &PinPlan, mark: Mark) -> Result<Vec<u8>, AllocError>
     ensures { IfOk result (λ text. text.items ≡ stored_text plan.now mark) }
 {
