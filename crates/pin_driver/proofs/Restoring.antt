@@ -4,8 +4,8 @@ use Rattle.std.specs.Prelude.{IfSome, slice_get, nat_le, ◌==◌}
 use Rattle.std.proofs.lemmas.Bool.{leb-true}
 use Rattle.std.proofs.lemmas.Bool.Decides.{eqb_tells}
 use Rattle.pin_driver.specs.Driven.{IsMark}
-use Rattle.pin_driver.specs.Exchanges.{Exchange, trouble_after, IsCalm, Ascends, last_stored, stored_mark, first_cluster, waited, named_cluster, or_later}
-use Rattle.pin_driver.specs.Restored.{IsRightBackQuestion, AreRightBackQuestions, IsRightNote, IsRightReturn, IsRightBackEnd, IsRestored, IsOurs, IsFoundOurs, put_right, put_right_more}
+use Rattle.pin_driver.specs.Exchanges.{Exchange, trouble_after, IsCalm, IsClusterLast, Ascends, MayBeStored, first_asked, last_stored, stored_mark, first_cluster, waited, named_cluster, or_later}
+use Rattle.pin_driver.specs.Restored.{IsRightBackQuestion, AreRightBackQuestions, IsRightNote, IsRightReturn, IsRightBackEnd, IsBackText, IsRestored, IsOurs, IsFoundOurs, put_right, put_right_more}
 use Rattle.pin_driver.specs.Restoring.{any_directory, doubtful_mark, no_mark, restorable_at, is_restorable, is_given, is_to_restore, pin_before, restored_one}
 use Rattle.pin_driver.specs.Restoring.{restorer_after, restorer_question, restorer_question_in, restorer_run, restorer_start, restorer_trouble, restorer_advanced, restorer_verdict, restorer_ended}
 use Rattle.pin_driver.specs.Setting.{noted}
@@ -53,7 +53,7 @@ InBackPhase phases.Resting x s h = LiveBack x s h × (s.cluster ≡ None)
 InBackPhase phases.Opening x s h = LiveBack x s h × (s.cluster ≡ None)
 InBackPhase phases.Noting x s h = LiveBack x s h × ((c : ClusterState) × (s.cluster ≡ Some c))
 InBackPhase phases.Checking x s h = LiveBack x s h × NotedBack x s h
-InBackPhase phases.Getting x s h = LiveBack x s h × NotedBack x s h × (0 < s.left)
+InBackPhase phases.Getting x s h = LiveBack x s h × NotedBack x s h × (0 < s.left) × IsClusterLast h
 InBackPhase phases.Restoring x s h = LiveBack x s h × ToRestore x s h
 InBackPhase phases.Closing x s h = LiveBack x s h × NotedBack x s h × (s.left ≡ 0)
 InBackPhase (phases.Ended ending) x s h = ToldBack x h × IsRightBackEnd x ending h
@@ -154,7 +154,7 @@ checks : (x : Task) (s : RestorerState) (h : List Exchange) (a : HostAnswer) →
     KeptBack x (next questions.Cluster a h) → IsBack x (restorer_advanced phases.Checking x s a) (next questions.Cluster a h)
 checks x s h a i kept = elim (eqb_tells s.left 0) [
   | inl none ↦ rw none.0 (live phases.Closing, record { known = i.1.known; stored = i.1.stored }, none.1)
-  | inr some ↦ rw some.0 (live phases.Getting, record { known = i.1.known; stored = i.1.stored }, omega (arith, some.1))
+  | inr some ↦ rw some.0 (live phases.Getting, record { known = i.1.known; stored = i.1.stored }, omega (arith, some.1), refl)
 ]
   where
     live : (p : RestorerPhase) → LiveBack x (record s { phase = p }) (next questions.Cluster a h)
@@ -220,7 +220,7 @@ found_one true x s h found e i kept =
         more = i.2;
         change = plan.0;
         planned = plan.1;
-        checked = (refl, (found, refl, plan.2));
+        checked = (refl, (found, refl, plan.2), i.3);
       },
     )
 found_one false x s h found e i kept =
@@ -310,14 +310,57 @@ runs x s h (a ∷ more) i =
     runs x (restorer_after x s a) (noted (restorer_ended s.phase) (record { asked = restorer_question x s; answer = a }) h) more
     (one_step x s h a (restorer_trouble x s a) refl i)
 
+-- an end stays
+stays_in : (p : RestorerPhase) (x : Task) (s : RestorerState) (a : HostAnswer) → restorer_ended p ≡ true →
+    (trouble any_directory s.cluster x.pace.longest_wait (restorer_question_in p x s) a ≡ None) × (restorer_advanced p x s a ≡ s)
+stays_in phases.Resting x s a e = absurd cc
+stays_in phases.Opening x s a e = absurd cc
+stays_in phases.Noting x s a e = absurd cc
+stays_in phases.Checking x s a e = absurd cc
+stays_in phases.Getting x s a e = absurd cc
+stays_in phases.Restoring x s a e = absurd cc
+stays_in phases.Closing x s a e = absurd cc
+stays_in (phases.Ended ending) x s a e = (refl, refl)
+
+pub restorer_stays : (x : Task) (s : RestorerState) (a : HostAnswer) → restorer_ended s.phase ≡ true → restorer_after x s a ≡ s
+restorer_stays x s a e =
+    let none : restorer_trouble x s a ≡ None = (stays_in s.phase x s a e).0 in
+    ap (λ (v : Option Trouble). restorer_verdict v x s a) none ∙ (stays_in s.phase x s a e).1
+
+-- what was asked first
+first_one : (p : RestorerPhase) (x : Task) (s : RestorerState) (h : List Exchange) (a : HostAnswer) → s.phase ≡ p →
+    first_asked (restorer_question x (restorer_after x s a)) (noted (restorer_ended p) (record { asked = restorer_question x s; answer = a }) h)
+    ≡ first_asked (restorer_question x s) h
+first_one phases.Resting x s h a e = refl
+first_one phases.Opening x s h a e = refl
+first_one phases.Noting x s h a e = refl
+first_one phases.Checking x s h a e = refl
+first_one phases.Getting x s h a e = refl
+first_one phases.Restoring x s h a e = refl
+first_one phases.Closing x s h a e = refl
+first_one (phases.Ended ending) x s h a e =
+    ap (λ (t : RestorerState). first_asked (restorer_question x t) h) (restorer_stays x s a (ap restorer_ended e))
+
+first_run : (x : Task) (s : RestorerState) (h : List Exchange) (more : List HostAnswer) →
+    first_asked (restorer_question x (restorer_run x s h more).0) (restorer_run x s h more).1 ≡ first_asked (restorer_question x s) h
+first_run x s h [] = refl
+first_run x s h (a ∷ more) =
+    first_run x (restorer_after x s a) (noted (restorer_ended s.phase) (record { asked = restorer_question x s; answer = a }) h) more
+    ∙ first_one s.phase x s h a refl
+
+pub record Returns (x : Task) (h : List Exchange) (q : Question) : Type 0 where
+  pub right : AreRightBackQuestions x h
+  pub next : IsRightBackQuestion x q h
+  pub texts : (mark : Mark) → MayBeStored x.first h mark → IsBackText x h mark
+
 -- what is asked
 returns_live : (p : RestorerPhase) (x : Task) (s : RestorerState) (h : List Exchange) → restorer_ended p ≡ false → InBackPhase p x s h →
-    IsRestored x h (restorer_question_in p x s)
+    Returns x h (restorer_question_in p x s)
 returns_live p x s h e i =
     let asked : LiveBack x s h × IsRightBackQuestion x (restorer_question_in p x s) h = asks_back p x s h e i in
     record { right = asked.0.kept.right; next = asked.1; texts = (told_back x h asked.0.kept).texts }
 
-returns_in : (p : RestorerPhase) (x : Task) (s : RestorerState) (h : List Exchange) → InBackPhase p x s h → IsRestored x h (restorer_question_in p x s)
+returns_in : (p : RestorerPhase) (x : Task) (s : RestorerState) (h : List Exchange) → InBackPhase p x s h → Returns x h (restorer_question_in p x s)
 returns_in phases.Resting x s h i = returns_live phases.Resting x s h refl i
 returns_in phases.Opening x s h i = returns_live phases.Opening x s h refl i
 returns_in phases.Noting x s h i = returns_live phases.Noting x s h refl i
@@ -346,21 +389,6 @@ pub returns : (x : Task) (more : List HostAnswer) →
     IsRestored x (restorer_run x (restorer_start x) [] more).1 (restorer_question x (restorer_run x (restorer_start x) [] more).0)
 returns x more =
     let end : RestorerState × List Exchange = restorer_run x (restorer_start x) [] more in
-    returns_in end.0.phase x end.0 end.1 (runs x (restorer_start x) [] more (starts x))
-
--- an end stays
-stays_in : (p : RestorerPhase) (x : Task) (s : RestorerState) (a : HostAnswer) → restorer_ended p ≡ true →
-    (trouble any_directory s.cluster x.pace.longest_wait (restorer_question_in p x s) a ≡ None) × (restorer_advanced p x s a ≡ s)
-stays_in phases.Resting x s a e = absurd cc
-stays_in phases.Opening x s a e = absurd cc
-stays_in phases.Noting x s a e = absurd cc
-stays_in phases.Checking x s a e = absurd cc
-stays_in phases.Getting x s a e = absurd cc
-stays_in phases.Restoring x s a e = absurd cc
-stays_in phases.Closing x s a e = absurd cc
-stays_in (phases.Ended ending) x s a e = (refl, refl)
-
-pub restorer_stays : (x : Task) (s : RestorerState) (a : HostAnswer) → restorer_ended s.phase ≡ true → restorer_after x s a ≡ s
-restorer_stays x s a e =
-    let none : restorer_trouble x s a ≡ None = (stays_in s.phase x s a e).0 in
-    ap (λ (v : Option Trouble). restorer_verdict v x s a) none ∙ (stays_in s.phase x s a e).1
+    let all : Returns x end.1 (restorer_question x end.0) =
+        returns_in end.0.phase x end.0 end.1 (runs x (restorer_start x) [] more (starts x)) in
+    record { right = all.right; next = all.next; texts = all.texts; rests = first_run x (restorer_start x) [] more }

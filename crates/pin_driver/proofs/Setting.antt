@@ -4,9 +4,9 @@ use Rattle.std.specs.Prelude.{IfSome, slice_get, nat_lt, nat_le, drop, ◌==◌,
 use Rattle.std.proofs.lemmas.Bool.{cases_Bool, cases_lt, ltb-false, ltb-true, le-ltb, lt-ltb, eqb-true, eq-eqb, eqb-false, le-leb, lt-leb}
 use Rattle.std.proofs.lemmas.Grind.{common_steps}
 use Rattle.std.proofs.lemmas.Bool.Decides.{nat_tests, eqb_tells}
-use Rattle.pin_driver.specs.Driven.{IsRightQuestion, AreRightQuestions, IsRightStore, IsRightSet, IsRightEnd, IsAllDone, HasTrouble, IsDriven, IsMark, AreInPlace, IsChecked, IsAsPlanned}
+use Rattle.pin_driver.specs.Driven.{IsRightQuestion, AreRightQuestions, IsRightStore, IsRightSet, IsRightEnd, IsAllDone, IsTextOf, HasTrouble, IsDriven, IsMark, AreInPlace, IsChecked, IsAsPlanned}
 use Rattle.pin_driver.specs.Driven.{standing_mark, settled, settled_more}
-use Rattle.pin_driver.specs.Exchanges.{Exchange, trouble_after, IsCalm, Descends, last_stored, stored_mark, first_cluster, waited, looks_in_place, WasSet, MayBeStored}
+use Rattle.pin_driver.specs.Exchanges.{Exchange, trouble_after, IsCalm, IsClusterLast, Descends, first_asked, last_stored, stored_mark, first_cluster, waited, looks_in_place, WasSet, MayBeStored}
 use Rattle.pin_driver.specs.Exchanges.{is_in_place, looks_after, named_cluster, or_later, looks_more, asked_cluster, waited_more}
 use Rattle.pin_driver.specs.Setting.{setter_after, setter_question, setter_run, setter_start, setter_trouble, question_in, advanced, after_verdict, noted, has_ended}
 use Rattle.pin_driver.specs.Setting.{begin_batch, batch_end, closed_mark, pin_after, passed, looked, closed, is_gone, after_store}
@@ -62,6 +62,7 @@ pub record ToNote (x : Task) (s : SetterState) (h : List Exchange) : Type 0 wher
 pub record ToGet (s : SetterState) (h : List Exchange) : Type 0 where
   pub noted : Noted s h
   pub more : s.at < s.mark.begun
+  pub cluster : IsClusterLast h
 
 pub record ToSet (x : Task) (s : SetterState) (h : List Exchange) : Type 0 where
   pub noted : Noted s h
@@ -87,7 +88,7 @@ InPhase phases.Noting x s h = Live x s h × ToNote x s h
 InPhase phases.Checking x s h = Live x s h × Noted s h
 InPhase phases.Getting x s h = Live x s h × ToGet s h
 InPhase phases.Setting x s h = Live x s h × ToSet x s h
-InPhase phases.Looking x s h = Live x s h × ToLook s h
+InPhase phases.Looking x s h = Live x s h × ToLook s h × IsClusterLast h
 InPhase phases.Pausing x s h = Live x s h × ToLook s h
 InPhase phases.Closing x s h = Live x s h × ToClose x s h
 InPhase (phases.Ended ending) x s h = Told x h × IsRightEnd x ending h
@@ -101,6 +102,7 @@ ask_close : (x : Task) (s : SetterState) (h : List Exchange) → Live x s h → 
 ask_close x s h live to =
     record {
       grows = rw to.stored (omega arith);
+      batch = rw to.stored (omega arith);
       sound = record { begun = live.sound.begun; certain = omega arith };
       certain = inr (record { order = subst (λ (n : ℕ). Descends n x.first.certain (settled h)) to.all live.order; looks = to.looks });
       calm = live.kept.calm;
@@ -125,7 +127,7 @@ asks phases.Setting x s h e i = (
       calm = i.0.kept.calm;
     }),
 )
-asks phases.Looking x s h e i = (i.0, tt)
+asks phases.Looking x s h e i = (i.0, i.2)
 asks phases.Pausing x s h e i = (i.0, tt)
 asks phases.Closing x s h e i = (i.0, ask_close x s h i.0 i.1)
 asks (phases.Ended ending) x s h e i = absurd cc
@@ -187,6 +189,7 @@ begins x s h live known standing fresh = (
     known = known;
     right = record {
       grows = rw standing (omega arith);
+      batch = rw standing (omega arith);
       sound = sound;
       certain = inl (ap (λ (m : Mark). m.certain) (sym standing));
       calm = live.kept.calm;
@@ -259,8 +262,8 @@ notes x s h a i none kept = (
 checks : (x : Task) (s : SetterState) (h : List Exchange) (a : HostAnswer) → InPhase phases.Checking x s h →
     Kept x (next questions.Cluster a h) → Is x (advanced phases.Checking x s a) (next questions.Cluster a h)
 checks x s h a i kept = elim (cases_lt s.at s.mark.begun) [
-  | inl lt ↦ rw (lt-ltb s.at s.mark.begun lt) (same phases.Getting, record { noted = record { known = i.1.known; stored = i.1.stored; looking = i.1.looking }; more = lt })
-  | inr le ↦ rw (le-ltb s.at s.mark.begun le) (same phases.Looking, record { noted = record { known = i.1.known; stored = i.1.stored; looking = i.1.looking }; all = omega (arith, i.0.at) })
+  | inl lt ↦ rw (lt-ltb s.at s.mark.begun lt) (same phases.Getting, record { noted = record { known = i.1.known; stored = i.1.stored; looking = i.1.looking }; more = lt; cluster = refl })
+  | inr le ↦ rw (le-ltb s.at s.mark.begun le) (same phases.Looking, record { noted = record { known = i.1.known; stored = i.1.stored; looking = i.1.looking }; all = omega (arith, i.0.at) }, refl)
 ]
   where
     same : (p : SetterPhase) → Live x (record s { phase = p }) (next questions.Cluster a h)
@@ -277,24 +280,24 @@ checks x s h a i kept = elim (cases_lt s.at s.mark.begun) [
     }
 
 -- the change is settled
-passes : (x : Task) (s : SetterState) (h k : List Exchange) → Live x s h → ToGet s h → Kept x k →
+passes : (x : Task) (s : SetterState) (h k : List Exchange) → Live x s h → Noted s h → s.at < s.mark.begun → Kept x k →
     first_cluster k ≡ first_cluster h → waited k ≡ waited h → looks_in_place k ≡ 0 → settled k ≡ s.at ∷ settled h →
     last_stored k ≡ last_stored h → Is x (passed s) k
-passes x s h k live to kept cluster waits looks places stored =
-    let at : min s.mark.begun (s.at + 1) ≡ suc s.at = omega (arith, to.more) in
+passes x s h k live noted more kept cluster waits looks places stored =
+    let at : min s.mark.begun (s.at + 1) ≡ suc s.at = omega (arith, more) in
     (
       record {
         kept = kept;
         cluster = cluster ∙ live.cluster;
         left = ap (λ (n : ℕ). x.pace.longest_wait - n) waits ∙ live.left;
-        looks = omega (arith, live.looks, live.fresh to.more, looks);
+        looks = omega (arith, live.looks, live.fresh more, looks);
         order = rw (at, places) (refl, live.order);
         begun = live.begun;
         sound = live.sound;
         at = omega arith;
         fresh = λ _. looks;
       },
-      record { known = to.noted.known; stored = stored ∙ to.noted.stored; looking = to.noted.looking },
+      record { known = noted.known; stored = stored ∙ noted.stored; looking = noted.looking },
     )
 
 -- a directory without trouble is as planned
@@ -349,7 +352,7 @@ gets : (x : Task) (s : SetterState) (h : List Exchange) (a : HostAnswer) → InP
 gets x s h a i none kept = elim (get_answer (unlike_plan x s.at) a none) [
   | inl gone ↦
     let P : HostAnswer → Type 0 = λ b. Kept x (next (questions.Get s.at) b h) → Is x (advanced phases.Getting x s b) (next (questions.Get s.at) b h) in
-    subst P (sym gone) (λ k. passes x s h (next (questions.Get s.at) answers.Gone h) i.0 i.1 k (or_nothing (first_cluster h)) refl (i.0.fresh i.1.more) refl refl) kept
+    subst P (sym gone) (λ k. passes x s h (next (questions.Get s.at) answers.Gone h) i.0 i.1.noted i.1.more k (or_nothing (first_cluster h)) refl (i.0.fresh i.1.more) refl refl) kept
   | inr found ↦
     let P : HostAnswer → Type 0 = λ b. Kept x (next (questions.Get s.at) b h) → Is x (advanced phases.Getting x s b) (next (questions.Get s.at) b h) in
     let plan : (c : PlannedChange) × (slice_get x.plan.changes s.at ≡ Some c) × IsAsPlanned x s.at c found.0 =
@@ -372,7 +375,7 @@ gets x s h a i none kept = elim (get_answer (unlike_plan x s.at) a none) [
         more = i.1.more;
         change = plan.0;
         planned = plan.1;
-        checked = (refl, (found.0, refl, plan.2));
+        checked = (refl, (found.0, refl, plan.2), i.1.cluster);
       },
     ))
     kept
@@ -382,13 +385,12 @@ sets : (x : Task) (s : SetterState) (h : List Exchange) (a : HostAnswer) → InP
     trouble (unlike_plan x) s.cluster s.left (question_in phases.Setting x s) a ≡ None →
     Kept x (next (question_in phases.Setting x s) a h) → Is x (advanced phases.Setting x s a) (next (question_in phases.Setting x s) a h)
 sets x s h a i none kept =
-    let to : ToGet s h = record { noted = i.1.noted; more = i.1.more } in
     elim (set_answer a none) [
       | inl done ↦
-        passes x s h (next (question_in phases.Setting x s) a h) i.0 to kept (or_nothing (first_cluster h)) refl refl
+        passes x s h (next (question_in phases.Setting x s) a h) i.0 i.1.noted i.1.more kept (or_nothing (first_cluster h)) refl refl
         (ap (λ (b : HostAnswer). settled_more (question_in phases.Setting x s) b (settled h)) done) refl
       | inr gone ↦
-        passes x s h (next (question_in phases.Setting x s) a h) i.0 to kept (or_nothing (first_cluster h)) refl refl
+        passes x s h (next (question_in phases.Setting x s) a h) i.0 i.1.noted i.1.more kept (or_nothing (first_cluster h)) refl refl
         (ap (λ (b : HostAnswer). settled_more (question_in phases.Setting x s) b (settled h)) gone) refl
     ]
 
@@ -539,9 +541,60 @@ runs x s h (a ∷ more) i =
     runs x (setter_after x s a) (noted (has_ended s.phase) (record { asked = setter_question x s; answer = a }) h) more
     (one_step x s h a (setter_trouble x s a) refl i)
 
+-- an end stays
+stays_in : (p : SetterPhase) (x : Task) (s : SetterState) (a : HostAnswer) → has_ended p ≡ true →
+    (trouble (unlike_plan x) s.cluster s.left (question_in p x s) a ≡ None) × (advanced p x s a ≡ s)
+stays_in phases.Resting x s a e = absurd cc
+stays_in phases.Opening x s a e = absurd cc
+stays_in phases.Noting x s a e = absurd cc
+stays_in phases.Checking x s a e = absurd cc
+stays_in phases.Getting x s a e = absurd cc
+stays_in phases.Setting x s a e = absurd cc
+stays_in phases.Looking x s a e = absurd cc
+stays_in phases.Pausing x s a e = absurd cc
+stays_in phases.Closing x s a e = absurd cc
+stays_in (phases.Ended ending) x s a e = (refl, refl)
+
+pub setter_stays : (x : Task) (s : SetterState) (a : HostAnswer) → has_ended s.phase ≡ true → setter_after x s a ≡ s
+setter_stays x s a e =
+    let none : setter_trouble x s a ≡ None = (stays_in s.phase x s a e).0 in
+    ap (λ (v : Option Trouble). after_verdict v x s a) none ∙ (stays_in s.phase x s a e).1
+
+-- what was asked first
+first_one : (p : SetterPhase) (x : Task) (s : SetterState) (h : List Exchange) (a : HostAnswer) → s.phase ≡ p →
+    first_asked (setter_question x (setter_after x s a)) (noted (has_ended p) (record { asked = setter_question x s; answer = a }) h)
+    ≡ first_asked (setter_question x s) h
+first_one phases.Resting x s h a e = refl
+first_one phases.Opening x s h a e = refl
+first_one phases.Noting x s h a e = refl
+first_one phases.Checking x s h a e = refl
+first_one phases.Getting x s h a e = refl
+first_one phases.Setting x s h a e = refl
+first_one phases.Looking x s h a e = refl
+first_one phases.Pausing x s h a e = refl
+first_one phases.Closing x s h a e = refl
+first_one (phases.Ended ending) x s h a e =
+    ap (λ (t : SetterState). first_asked (setter_question x t) h) (setter_stays x s a (ap has_ended e))
+
+first_run : (x : Task) (s : SetterState) (h : List Exchange) (more : List HostAnswer) →
+    first_asked (setter_question x (setter_run x s h more).0) (setter_run x s h more).1 ≡ first_asked (setter_question x s) h
+first_run x s h [] = refl
+first_run x s h (a ∷ more) =
+    first_run x (setter_after x s a) (noted (has_ended s.phase) (record { asked = setter_question x s; answer = a }) h) more
+    ∙ first_one s.phase x s h a refl
+
+first_rests : (x : Task) → x.first.certain < x.first.begun → setter_question x (setter_start x) ≡ questions.Wait REST_SECONDS
+first_rests x lt = rw (lt-ltb x.first.certain x.first.begun lt) refl
+
 -- what is asked
+pub record Drives (x : Task) (h : List Exchange) (q : Question) : Type 0 where
+  pub right : AreRightQuestions x h
+  pub next : IsRightQuestion x q h
+  pub texts : (mark : Mark) → MayBeStored x.first h mark → IsTextOf x h mark
+  pub next_named : (mark : Mark) (i : ℕ) (pin : Option ℕ) → MayBeStored x.first h mark → q ≡ questions.Set i pin → i < mark.begun
+
 drives_live : (p : SetterPhase) (x : Task) (s : SetterState) (h : List Exchange) → has_ended p ≡ false → InPhase p x s h →
-    IsDriven x h (question_in p x s)
+    Drives x h (question_in p x s)
 drives_live p x s h e i =
     let asked : Live x s h × IsRightQuestion x (question_in p x s) h = asks p x s h e i in
     record {
@@ -551,7 +604,7 @@ drives_live p x s h e i =
       next_named = λ mark k pin m is. next_named x (question_in p x s) h mark k pin asked.0.kept asked.1 m is;
     }
 
-drives_in : (p : SetterPhase) (x : Task) (s : SetterState) (h : List Exchange) → InPhase p x s h → IsDriven x h (question_in p x s)
+drives_in : (p : SetterPhase) (x : Task) (s : SetterState) (h : List Exchange) → InPhase p x s h → Drives x h (question_in p x s)
 drives_in phases.Resting x s h i = drives_live phases.Resting x s h refl i
 drives_in phases.Opening x s h i = drives_live phases.Opening x s h refl i
 drives_in phases.Noting x s h i = drives_live phases.Noting x s h refl i
@@ -587,23 +640,12 @@ pub drives : (x : Task) (more : List HostAnswer) → IsMark x.first (length x.pl
     IsDriven x (setter_run x (setter_start x) [] more).1 (setter_question x (setter_run x (setter_start x) [] more).0)
 drives x more mark =
     let end : SetterState × List Exchange = setter_run x (setter_start x) [] more in
-    drives_in end.0.phase x end.0 end.1 (runs x (setter_start x) [] more (starts x mark))
-
--- an end stays
-stays_in : (p : SetterPhase) (x : Task) (s : SetterState) (a : HostAnswer) → has_ended p ≡ true →
-    (trouble (unlike_plan x) s.cluster s.left (question_in p x s) a ≡ None) × (advanced p x s a ≡ s)
-stays_in phases.Resting x s a e = absurd cc
-stays_in phases.Opening x s a e = absurd cc
-stays_in phases.Noting x s a e = absurd cc
-stays_in phases.Checking x s a e = absurd cc
-stays_in phases.Getting x s a e = absurd cc
-stays_in phases.Setting x s a e = absurd cc
-stays_in phases.Looking x s a e = absurd cc
-stays_in phases.Pausing x s a e = absurd cc
-stays_in phases.Closing x s a e = absurd cc
-stays_in (phases.Ended ending) x s a e = (refl, refl)
-
-pub setter_stays : (x : Task) (s : SetterState) (a : HostAnswer) → has_ended s.phase ≡ true → setter_after x s a ≡ s
-setter_stays x s a e =
-    let none : setter_trouble x s a ≡ None = (stays_in s.phase x s a e).0 in
-    ap (λ (v : Option Trouble). after_verdict v x s a) none ∙ (stays_in s.phase x s a e).1
+    let all : Drives x end.1 (setter_question x end.0) =
+        drives_in end.0.phase x end.0 end.1 (runs x (setter_start x) [] more (starts x mark)) in
+    record {
+      right = all.right;
+      next = all.next;
+      texts = all.texts;
+      next_named = all.next_named;
+      rests = λ lt. first_run x (setter_start x) [] more ∙ first_rests x lt;
+    }

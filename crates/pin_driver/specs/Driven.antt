@@ -1,6 +1,7 @@
 -- What holds of all that a setter asks, whatever is answered.
-use Rattle.std.specs.Prelude.{◌≡◌, ◌⊎◌, ℕ, ◌<◌, ◌≤◌, List, [], ◌∷◌, length, slice_get, Option, Some, None, IfSome}
-use Rattle.pin_driver.specs.Exchanges.{Exchange, trouble_after, last_stored, looks_in_place, Descends, IsListed, IsCalm, MayBeStored, WasSet}
+use Rattle.std.specs.Prelude.{◌≡◌, ◌⊎◌, ℕ, ◌<◌, ◌≤◌, max, List, [], ◌∷◌, length, slice_get, Option, Some, None, IfSome}
+use Rattle.pin_driver.specs.Exchanges.{Exchange, trouble_after, last_stored, looks_in_place, Descends, IsListed, IsCalm, IsClusterLast, first_asked, MayBeStored, WasSet}
+use Rattle.pin_driver.specs.Setting.{batch_end}
 use Rattle.pin_driver.specs.Troubles.{unlike_plan}
 use Rattle.pin_driver.specs.declared.answer.FoundPin.{FoundPin}
 use Rattle.pin_driver.specs.declared.answer.HostAnswer.{HostAnswer}
@@ -13,7 +14,7 @@ use Rattle.pin_driver.specs.declared.question.Question.{Question}
 use Rattle.pin_driver.specs.declared.question.Question.TheVariants as questions
 use Rattle.pin_driver.specs.declared.question.Trouble.{Trouble}
 use Rattle.pin_driver.specs.declared.task.Task.{Task}
-use Rattle.pin_driver.specs.declared.task.TheConstants.{LOOKS}
+use Rattle.pin_driver.specs.declared.task.TheConstants.{LOOKS, REST_SECONDS}
 
 -- the mark is one of a plan with this many changes
 pub record IsMark (mark : Mark) (changes : ℕ) : Type 0 where
@@ -38,11 +39,13 @@ pub record IsAsPlanned (x : Task) (i : ℕ) (change : PlannedChange) (found : Fo
   pub inode : IfSome change.inode (λ inode. found.inode ≡ inode)
   pub pin : (found.pin ≡ change.before) ⊎ ((i < x.first.begun) × (found.pin ≡ change.after))
 
--- the last exchange asked for the directory of this change, which was found as planned
+-- the last exchange asked for the directory of this change, which was found as planned, and the one before for the state
+-- of the cluster
 abbrev pub IsChecked : Task → ℕ → PlannedChange → List Exchange → Type 0
 IsChecked x i change [] = ⊥
 IsChecked x i change (e ∷ h) =
     (e.asked ≡ questions.Get i) × ((found : FoundPin) × (e.answer ≡ answers.Found found) × IsAsPlanned x i change found)
+    × IsClusterLast h
 
 -- a set that is asked after these exchanges: it is the next change of the plan, after all those before it are settled;
 -- the text that is stored names it; its directory was looked at just before; and there was no trouble
@@ -64,10 +67,11 @@ pub record AreInPlace (x : Task) (place : ℕ) (h : List Exchange) : Type 0 wher
   pub order : Descends place x.first.certain (settled h)
   pub looks : LOOKS ≤ looks_in_place h
 
--- a text that is to be stored after these exchanges: it names no fewer changes than the one that is stored, and says
--- of no change that it is certain without looks that found all in place
+-- a text that is to be stored after these exchanges: it names no fewer changes than the one that is stored, and beyond
+-- those no more than one batch; it says of no change that it is certain without looks that found all in place
 pub record IsRightStore (x : Task) (mark : Mark) (h : List Exchange) : Type 0 where
   pub grows : (standing_mark x.first (last_stored h)).begun ≤ mark.begun
+  pub batch : mark.begun ≤ max (standing_mark x.first (last_stored h)).begun (batch_end x mark.certain)
   pub sound : IsMark mark (length x.plan.changes)
   pub certain : (mark.certain ≡ (standing_mark x.first (last_stored h)).certain) ⊎ AreInPlace x mark.certain h
   pub calm : IsCalm (unlike_plan x) x h
@@ -94,6 +98,7 @@ abbrev pub IsRightQuestion : Task → Question → List Exchange → Type 0
 IsRightQuestion x (questions.Set i pin) h = (change : PlannedChange) × IsRightSet x i pin change h
 IsRightQuestion x (questions.Store mark) h = IsRightStore x mark h
 IsRightQuestion x (questions.End ending) h = IsRightEnd x ending h
+IsRightQuestion x questions.Roots h = IsClusterLast h
 IsRightQuestion x _ h = Unit {0}
 
 -- each question after the exchanges before it
@@ -116,4 +121,7 @@ pub record IsDriven (x : Task) (h : List Exchange) (asked : Question) : Type 0 w
   pub next : IsRightQuestion x asked h
   pub texts : (mark : Mark) → MayBeStored x.first h mark → IsTextOf x h mark
   -- a change that is to be set now is named by the text, too
-  pub next_named : (mark : Mark) (i : ℕ) (pin : Option ℕ) → MayBeStored x.first h mark → asked ≡ questions.Set i pin → i < mark.begun
+  pub next_named : (mark : Mark) (i : ℕ) (pin : Option ℕ) → MayBeStored x.first h mark →
+      asked ≡ questions.Set i pin → i < mark.begun
+  -- where changes may be made already, it waits before all else, until no pin is read as its old value
+  pub rests : x.first.certain < x.first.begun → first_asked asked h ≡ questions.Wait REST_SECONDS

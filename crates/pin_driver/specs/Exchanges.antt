@@ -107,6 +107,16 @@ abbrev pub WasSet : List Exchange → ℕ → Type 0
 WasSet [] i = ⊥
 WasSet (e ∷ h) i = IsSetAt e.asked i ⊎ WasSet h i
 
+-- what was asked first, where this is asked now
+abbrev pub first_asked : Question → List Exchange → Question
+first_asked now [] = now
+first_asked now (e ∷ h) = first_asked e.asked h
+
+-- the last question was for the state of the cluster
+abbrev pub IsClusterLast : List Exchange → Type 0
+IsClusterLast [] = ⊥
+IsClusterLast (e ∷ h) = e.asked ≡ questions.Cluster
+
 -- what was wrong with the last answer, where `judge` says what is wrong with a directory
 abbrev pub trouble_after : (ℕ → FoundPin → Option Trouble) → Task → List Exchange → Exchange → Option Trouble
 trouble_after judge x h e = trouble judge (first_cluster h) (x.pace.longest_wait - waited h) e.asked e.answer

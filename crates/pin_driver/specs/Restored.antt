@@ -1,7 +1,7 @@
 -- What holds of all that a restorer asks, whatever is answered.
 use Rattle.std.specs.Prelude.{◌≡◌, ◌⊎◌, ℕ, suc, ◌<◌, ◌≤◌, Bool, true, false, not, List, [], ◌∷◌, length, slice_get, Option, Some, None, IfSome, if◌then◌else◌}
 use Rattle.pin_driver.specs.Driven.{IsMark}
-use Rattle.pin_driver.specs.Exchanges.{Exchange, trouble_after, last_stored, Ascends, IsListed, IsCalm, MayBeStored, WasSet}
+use Rattle.pin_driver.specs.Exchanges.{Exchange, trouble_after, last_stored, Ascends, IsListed, IsCalm, IsClusterLast, first_asked, MayBeStored, WasSet}
 use Rattle.pin_driver.specs.Restoring.{any_directory, doubtful_mark, no_mark, restorable_at}
 use Rattle.pin_driver.specs.declared.answer.FoundPin.{FoundPin}
 use Rattle.pin_driver.specs.declared.answer.HostAnswer.{HostAnswer}
@@ -14,6 +14,7 @@ use Rattle.pin_driver.specs.declared.question.Question.{Question}
 use Rattle.pin_driver.specs.declared.question.Question.TheVariants as questions
 use Rattle.pin_driver.specs.declared.question.Trouble.{Trouble}
 use Rattle.pin_driver.specs.declared.task.Task.{Task}
+use Rattle.pin_driver.specs.declared.task.TheConstants.{REST_SECONDS}
 
 -- the directory is the one of the change, with the pin that the change gave it; where it is not certain that the change
 -- was made, it may show the pin of before
@@ -35,11 +36,13 @@ abbrev pub put_right : Task → List Exchange → List ℕ
 put_right x [] = []
 put_right x (e ∷ h) = put_right_more x e.asked e.answer (put_right x h)
 
--- the last exchange asked for the directory of this change, which has a pin of ours
+-- the last exchange asked for the directory of this change, which has a pin of ours, and the one before for the state of
+-- the cluster
 abbrev pub IsFoundOurs : Task → ℕ → PlannedChange → List Exchange → Type 0
 IsFoundOurs x i change [] = ⊥
 IsFoundOurs x i change (e ∷ h) =
     (e.asked ≡ questions.Get i) × ((found : FoundPin) × (e.answer ≡ answers.Found found) × IsOurs x i change found)
+    × IsClusterLast h
 
 -- a set that is asked after these exchanges: it gives a begun change's directory its pin of before, after all begun
 -- changes behind it are put right; the text that is stored says that nothing is certain; its directory was looked at just
@@ -103,3 +106,5 @@ pub record IsRestored (x : Task) (h : List Exchange) (asked : Question) : Type 0
   pub right : AreRightBackQuestions x h
   pub next : IsRightBackQuestion x asked h
   pub texts : (mark : Mark) → MayBeStored x.first h mark → IsBackText x h mark
+  -- it waits before all else, until no pin is read as its old value
+  pub rests : first_asked asked h ≡ questions.Wait REST_SECONDS
