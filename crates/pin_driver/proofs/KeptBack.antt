@@ -3,6 +3,8 @@ use Rattle.std.proofs.Common.{◌≡◌, ◌⊎◌, ℕ, suc, ◌<◌, ◌≤◌
 use Rattle.std.proofs.lemmas.Bool.{cases_lt}
 use Rattle.pin_driver.specs.Driven.{standing_mark}
 use Rattle.pin_driver.specs.Exchanges.{Exchange, trouble_after, IsCalm, last_stored, stored_mark, WasSet, IsSetAt, MayBeStored, MayStand, Ascends, IsListed}
+use Rattle.pin_driver.specs.Notes.{with_place}
+use Rattle.pin_driver.specs.declared.note.Note.TheVariants as notes
 use Rattle.pin_driver.specs.Restored.{IsRightBackQuestion, AreRightBackQuestions, IsRightNote, IsRightReturn, IsBackText, put_right, put_right_more}
 use Rattle.pin_driver.specs.Restoring.{any_directory, doubtful_mark, no_mark, restorable_at}
 use Rattle.pin_driver.specs.declared.answer.HostAnswer.{HostAnswer}
@@ -30,7 +32,7 @@ pub record ToldBack (x : Task) (h : List Exchange) : Type 0 where
   pub texts : (mark : Mark) → MayBeStored x.first h mark → IsBackText x h mark
 
 -- what is put right stays so
-listed_cond : (b : Bool) (i j : ℕ) (places : List ℕ) → IsListed i places → IsListed i (cond b places (j ∷ places))
+listed_cond : (b : Bool) (i j : ℕ) (places : List ℕ) → IsListed i places → IsListed i (with_place (cond b notes.Nothing (notes.LeftAlone j)) places)
 listed_cond true i j places l = l
 listed_cond false i j places l = inr l
 

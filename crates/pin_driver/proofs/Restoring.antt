@@ -5,6 +5,8 @@ use Rattle.std.proofs.lemmas.Bool.{leb-true}
 use Rattle.std.proofs.lemmas.Bool.Decides.{eqb_tells}
 use Rattle.pin_driver.specs.Driven.{IsMark}
 use Rattle.pin_driver.specs.Exchanges.{Exchange, trouble_after, IsCalm, IsClusterLast, Ascends, MayBeStored, first_asked, last_stored, stored_mark, first_cluster, waited, named_cluster, or_later}
+use Rattle.pin_driver.specs.Notes.{with_place}
+use Rattle.pin_driver.specs.declared.note.Note.TheVariants as kinds
 use Rattle.pin_driver.specs.Restored.{IsRightBackQuestion, AreRightBackQuestions, IsRightNote, IsRightReturn, IsRightBackEnd, IsBackText, IsRestored, IsOurs, IsFoundOurs, put_right, put_right_more}
 use Rattle.pin_driver.specs.Restoring.{any_directory, doubtful_mark, no_mark, restorable_at, is_restorable, is_given, is_to_restore, pin_before, restored_one}
 use Rattle.pin_driver.specs.Restoring.{restorer_after, restorer_question, restorer_question_in, restorer_run, restorer_start, restorer_trouble, restorer_advanced, restorer_verdict, restorer_ended}
@@ -225,7 +227,7 @@ found_one true x s h found e i kept =
     )
 found_one false x s h found e i kept =
     passes x s h (next (questions.Get (s.left - 1)) (answers.Found found) h) i.0 i.1 i.2 kept (or_nothing (first_cluster h))
-    (ap (λ (b : Bool). cond b (put_right x h) ((s.left - 1) ∷ put_right x h)) e) refl
+    (ap (λ (b : Bool). with_place (cond b kinds.Nothing (kinds.LeftAlone (s.left - 1))) (put_right x h)) e) refl
 
 gets : (x : Task) (s : RestorerState) (h : List Exchange) (a : HostAnswer) → InBackPhase phases.Getting x s h →
     trouble any_directory s.cluster x.pace.longest_wait (questions.Get (s.left - 1)) a ≡ None →

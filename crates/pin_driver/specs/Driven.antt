@@ -1,6 +1,7 @@
 -- What holds of all that a setter asks, whatever is answered.
 use Rattle.std.specs.Prelude.{◌≡◌, ◌⊎◌, ℕ, ◌<◌, ◌≤◌, max, List, [], ◌∷◌, length, slice_get, Option, Some, None, IfSome}
 use Rattle.pin_driver.specs.Exchanges.{Exchange, trouble_after, last_stored, looks_in_place, Descends, IsListed, IsCalm, IsClusterLast, first_asked, MayBeStored, WasSet}
+use Rattle.pin_driver.specs.Notes.{setter_note, with_place}
 use Rattle.pin_driver.specs.Setting.{batch_end}
 use Rattle.pin_driver.specs.Troubles.{unlike_plan}
 use Rattle.pin_driver.specs.declared.answer.FoundPin.{FoundPin}
@@ -21,12 +22,8 @@ pub record IsMark (mark : Mark) (changes : ℕ) : Type 0 where
   pub begun : mark.begun ≤ changes
   pub certain : mark.certain ≤ mark.begun
 
--- with the place of a change that is settled by this exchange in front: it was set, or its directory is gone
 abbrev pub settled_more : Question → HostAnswer → List ℕ → List ℕ
-settled_more (questions.Set i pin) answers.Done places = i ∷ places
-settled_more (questions.Set i pin) answers.Gone places = i ∷ places
-settled_more (questions.Get i) answers.Gone places = i ∷ places
-settled_more _ a places = places
+settled_more q a places = with_place (setter_note q a) places
 
 -- the changes that were set, or passed over as their directory is gone, the last one first
 abbrev pub settled : List Exchange → List ℕ

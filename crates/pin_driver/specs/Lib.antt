@@ -1,5 +1,6 @@
 pub mod Driven
 pub mod Exchanges
+pub mod Notes
 pub mod PinPlan
 pub mod Restored
 pub mod RestorerParts

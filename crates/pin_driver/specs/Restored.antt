@@ -1,8 +1,9 @@
 -- What holds of all that a restorer asks, whatever is answered.
-use Rattle.std.specs.Prelude.{◌≡◌, ◌⊎◌, ℕ, suc, ◌<◌, ◌≤◌, Bool, true, false, not, List, [], ◌∷◌, length, slice_get, Option, Some, None, IfSome, if◌then◌else◌}
+use Rattle.std.specs.Prelude.{◌≡◌, ◌⊎◌, ℕ, suc, ◌<◌, ◌≤◌, List, [], ◌∷◌, length, slice_get, Option, Some, None, IfSome}
 use Rattle.pin_driver.specs.Driven.{IsMark}
 use Rattle.pin_driver.specs.Exchanges.{Exchange, trouble_after, last_stored, Ascends, IsListed, IsCalm, IsClusterLast, first_asked, MayBeStored, WasSet}
-use Rattle.pin_driver.specs.Restoring.{any_directory, doubtful_mark, no_mark, restorable_at}
+use Rattle.pin_driver.specs.Notes.{restorer_note, with_place}
+use Rattle.pin_driver.specs.Restoring.{any_directory, doubtful_mark, no_mark}
 use Rattle.pin_driver.specs.declared.answer.FoundPin.{FoundPin}
 use Rattle.pin_driver.specs.declared.answer.HostAnswer.{HostAnswer}
 use Rattle.pin_driver.specs.declared.answer.HostAnswer.TheVariants as answers
@@ -22,14 +23,8 @@ pub record IsOurs (x : Task) (i : ℕ) (change : PlannedChange) (found : FoundPi
   pub inode : IfSome change.inode (λ inode. found.inode ≡ inode)
   pub pin : (found.pin ≡ change.after) ⊎ ((x.first.certain ≤ i) × (found.pin ≡ change.before))
 
--- with the place of a change in front that is put right by this exchange: its pin was restored, its directory is gone,
--- or it has another inode number or a pin that is not ours, and is left alone
 abbrev pub put_right_more : Task → Question → HostAnswer → List ℕ → List ℕ
-put_right_more x (questions.Set i pin) answers.Done places = i ∷ places
-put_right_more x (questions.Set i pin) answers.Gone places = i ∷ places
-put_right_more x (questions.Get i) answers.Gone places = i ∷ places
-put_right_more x (questions.Get i) (answers.Found found) places = if restorable_at x i found then places else i ∷ places
-put_right_more x _ a places = places
+put_right_more x q a places = with_place (restorer_note x q a) places
 
 -- the changes whose pins were restored, or that were left alone, the last one first
 abbrev pub put_right : Task → List Exchange → List ℕ

@@ -1,9 +1,10 @@
 //! Restores the pins of before a plan.
-ghost use Rattle.std.specs.Prelude.{◌≡◌, length};
-ghost use Rattle.pin_driver.specs.Driven.{IsMark};
+ghost use Rattle.std.specs.Prelude.{◌≡◌};
+ghost use Rattle.pin_driver.specs.Notes.{restorer_note};
 ghost use Rattle.pin_driver.specs.Restoring.{restorer_after, restorer_question, restorer_start};
 
 use crate::answer::HostAnswer;
+use crate::note::Note;
 use crate::question::Question;
 use crate::restorer_state::RestorerState;
 use crate::task::Task;
@@ -27,7 +28,6 @@ impl Model for PinRestorer {
 impl PinRestorer {
     /// A restorer at its begin.
     pub fn new(task: Task) -> PinRestorer
-        requires mark { IsMark task.first (length task.plan.changes) }
         ensures task { result.task ≡ task }
         ensures state { result.state ≡ restorer_start task }
     {
@@ -49,11 +49,15 @@ impl PinRestorer {
         self.state.question(&self.task)
     }
 
-    /// Takes the answer to what it asks.
-    pub fn answer(&mut self, answer: HostAnswer)
+    /// Takes the answer to what it asks, and says what became of a change by it.
+    pub fn answer(&mut self, answer: HostAnswer) -> Note
+        ensures note { result
+            ≡ restorer_note self.old.task (restorer_question self.old.task self.old.state) answer }
         ensures task { self.new.task ≡ self.old.task }
         ensures state { self.new.state ≡ restorer_after self.old.task self.old.state answer }
     {
+        let note = self.state.note(&self.task, &answer);
         self.state.answer(&self.task, answer);
+        note
     }
 }

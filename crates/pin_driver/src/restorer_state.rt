@@ -11,9 +11,11 @@ ghost use Rattle.std.specs.Prelude.{◌≡◌, ◌-◌, ◌==◌, slice_get, nat
 ghost use Rattle.pin_driver.specs.Restoring.{is_given, is_restorable, is_to_restore, pin_before, restorable_at};
 ghost use Rattle.pin_driver.specs.Restoring.{restored_one, restorer_advanced, restorer_after, restorer_question};
 ghost use Rattle.pin_driver.specs.Restoring.{restorer_start, restorer_trouble, any_directory};
+ghost use Rattle.pin_driver.specs.Notes.{restorer_note};
 ghost use Rattle.pin_driver.specs.Troubles.{get_trouble};
 
 use crate::answer::{ClusterState, FoundPin, HostAnswer, named_cluster};
+use crate::note::{Note, setter_note};
 use crate::plan::PlannedChange;
 use crate::question::{Ending, Mark, Question, Trouble};
 use crate::task::{REST_SECONDS, Task};
@@ -105,6 +107,16 @@ impl RestorerState {
         Question::Set(at, pin)
     }
 
+    /// What an answer says became of a change.
+    pub(crate) fn note(&self, task: &Task, answer: &HostAnswer) -> Note
+        ensures { result ≡ restorer_note task.now (restorer_question task.now self.now) answer.now }
+    {
+        match self.question(task) {
+            Question::Get(place) => get_note(task, place, answer),
+            question => setter_note(question, answer),
+        }
+    }
+
     /// What is wrong with an answer, if anything is.
     fn trouble(&self, task: &Task, answer: &HostAnswer) -> Option<Trouble>
         ensures { result ≡ restorer_trouble task.now self.now answer.now }
@@ -171,6 +183,23 @@ impl RestorerState {
     {
         self.left = self.next_place();
         self.phase = RestorerPhase::Checking;
+    }
+}
+
+/// What the answer for a directory says became of its change.
+fn get_note(task: &Task, place: usize, answer: &HostAnswer) -> Note
+    ensures { result ≡ restorer_note task.now (Question.Get place) answer.now }
+{
+    match answer {
+        HostAnswer::Gone => Note::Gone(place),
+        HostAnswer::Found(found) => {
+            if is_restorable(task, place, *found) {
+                Note::Nothing
+            } else {
+                Note::LeftAlone(place)
+            }
+        }
+        _ => Note::Nothing,
     }
 }
 

@@ -1,9 +1,11 @@
 //! Sets the pins of a plan.
 ghost use Rattle.std.specs.Prelude.{◌≡◌, length};
 ghost use Rattle.pin_driver.specs.Driven.{IsMark};
+ghost use Rattle.pin_driver.specs.Notes.{setter_note as note_of};
 ghost use Rattle.pin_driver.specs.Setting.{setter_after, setter_question, setter_start};
 
 use crate::answer::HostAnswer;
+use crate::note::{Note, setter_note};
 use crate::question::Question;
 use crate::setter_state::SetterState;
 use crate::task::Task;
@@ -49,11 +51,14 @@ impl PinSetter {
         self.state.question(&self.task)
     }
 
-    /// Takes the answer to what it asks.
-    pub fn answer(&mut self, answer: HostAnswer)
+    /// Takes the answer to what it asks, and says what became of a change by it.
+    pub fn answer(&mut self, answer: HostAnswer) -> Note
+        ensures note { result ≡ note_of (setter_question self.old.task self.old.state) answer }
         ensures task { self.new.task ≡ self.old.task }
         ensures state { self.new.state ≡ setter_after self.old.task self.old.state answer }
     {
+        let note = setter_note(self.state.question(&self.task), &answer);
         self.state.answer(&self.task, answer);
+        note
     }
 }
