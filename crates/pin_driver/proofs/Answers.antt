@@ -1,6 +1,6 @@
 -- What an answer is that is no trouble.
-use Rattle.std.proofs.Common.{◌≡◌, ℕ, Option, Some, None, refl, inl, inr, ◌⊎◌}
-use Rattle.pin_driver.specs.Troubles.{wait_trouble, state_trouble, store_trouble, get_trouble, set_trouble}
+use Rattle.std.proofs.Common.{◌≡◌, Option, None, refl, inl, inr, ◌⊎◌}
+use Rattle.pin_driver.specs.Troubles.{state_trouble, store_trouble, get_trouble, set_trouble}
 use Rattle.pin_driver.specs.declared.answer.ClusterState.{ClusterState}
 use Rattle.pin_driver.specs.declared.answer.FoundPin.{FoundPin}
 use Rattle.pin_driver.specs.declared.answer.HostAnswer.{HostAnswer}

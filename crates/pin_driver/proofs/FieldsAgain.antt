@@ -1,28 +1,28 @@
 -- Fields that are written are read again.
-use Rattle.std.proofs.Common.{◌≡◌, ◌∙◌, ℕ, zero, suc, ◌+◌, ◌-◌, ◌*◌, ◌/◌, ◌%◌, ◌<◌, ◌≤◌, ◌^◌, Bool, true, false, not, ◌&&◌, ◌||◌, cond, List, [], ◌∷◌, ◌++◌, All, codes, length, take, drop, refl, sym, ap, subst, arith, inl, inr, one-add, append_assoc, Option, Some, None}
-use Rattle.std.specs.Prelude.{◌==◌, decimal, nat_le, nat_lt, slice_index, IfSome}
+use Rattle.std.proofs.Common.{◌≡◌, ◌∙◌, ℕ, suc, ◌+◌, ◌-◌, ◌*◌, ◌/◌, ◌%◌, ◌<◌, ◌≤◌, ◌^◌, Bool, true, false, not, ◌&&◌, cond, List, [], ◌∷◌, ◌++◌, codes, length, take, drop, refl, sym, ap, subst, arith, one-add, append_assoc, Option, Some, None}
+use Rattle.std.specs.Prelude.{◌==◌, decimal, nat_le, slice_index, IfSome}
 use Rattle.std.specs.Char.{digit_value}
-use Rattle.std.specs.List.{after_first, before_first, flat_map, list_all, position_or_len}
-use Rattle.std.specs.Option.{option_and_then, option_map}
+use Rattle.std.specs.List.{after_first, before_first, list_all, position_or_len}
+use Rattle.std.specs.Option.{option_map}
 use Rattle.std.specs.Str.{bytes_eq}
-use Rattle.std.specs.Str.Parse.{AllDigits, IsNumeral, digits_value, digits_value_after}
-use Rattle.std.proofs.lemmas.Bool.{and_from, and_parts, cases_Bool, le-leb, lt-ltb, leb-true, ltb-true, false_from_ne_true}
+use Rattle.std.specs.Str.Parse.{AllDigits, IsNumeral, digits_value_after}
+use Rattle.std.proofs.lemmas.Bool.{and_from, and_parts, le-leb, lt-ltb, false_from_ne_true}
 use Rattle.std.proofs.lemmas.Bool.Decides.{nat_tests}
 use Rattle.std.proofs.lemmas.Fmt.{decimal_is_IsNumeral}
 use Rattle.std.proofs.lemmas.List.Elements.{All-head, All-tail}
 use Rattle.std.proofs.lemmas.Slice.Eq.{bytes_eq-Decides}
-use Rattle.pin_driver.specs.StoredReading.{escape_value, field_bytes, field_number, field_rank, is_end, is_escape, is_octal_to, meant_bytes, next_digit, number_onto, or_dash, read_field, skip_word}
-use Rattle.pin_driver.specs.StoredText.{AreBytes, field_text, is_kept, kept_byte, kept_bytes, last_text, number_or_dash}
+use Rattle.pin_driver.specs.StoredReading.{escape_value, field_bytes, field_number, field_rank, closes_field, is_escape, is_octal_to, meant_bytes, next_digit, number_onto, or_dash, read_field, skip_word}
+use Rattle.pin_driver.specs.StoredText.{AreBytes, field_text, is_kept, kept_bytes, last_text, number_or_dash}
 use Rattle.pin_driver.proofs.Many.{then_reads}
 
 -- a field has no byte that ends it
 abbrev goes_on : ℕ → Bool
-goes_on c = not (is_end c)
+goes_on c = not (closes_field c)
 
 abbrev pub IsField : List ℕ → Type 0
 IsField field = list_all goes_on field ≡ true
 
-field_place : (field : List ℕ) (e : ℕ) (more : List ℕ) → IsField field → is_end e ≡ true → position_or_len is_end (field ++ e ∷ more) ≡ length field
+field_place : (field : List ℕ) (e : ℕ) (more : List ℕ) → IsField field → closes_field e ≡ true → position_or_len closes_field (field ++ e ∷ more) ≡ length field
 field_place [] e more f ends = rw ends refl
 field_place (c ∷ field) e more f ends =
     let parts = and_parts (goes_on c) (list_all goes_on field) f in
@@ -38,22 +38,21 @@ back_of (x ∷ a) e b =
     let next : suc (length a) + 1 ≡ suc (length a + 1) = omega arith in
     ap (λ (n : ℕ). drop n (x ∷ (a ++ e ∷ b))) next ∙ back_of a e b
 
-first_field : (field : List ℕ) (e : ℕ) (more : List ℕ) → IsField field → is_end e ≡ true →
-    (before_first is_end (field ++ e ∷ more) ≡ field) × (after_first is_end (field ++ e ∷ more) ≡ more)
+first_field : (field : List ℕ) (e : ℕ) (more : List ℕ) → IsField field → closes_field e ≡ true →
+    (before_first closes_field (field ++ e ∷ more) ≡ field) × (after_first closes_field (field ++ e ∷ more) ≡ more)
 first_field field e more f ends =
-    let place = field_place field e more f ends in
-    (
+    let place = field_place field e more f ends in (
       ap (λ (n : ℕ). take n (field ++ e ∷ more)) place ∙ front_of field (e ∷ more),
       ap (λ (n : ℕ). drop (n + 1) (field ++ e ∷ more)) place ∙ back_of field e more,
     )
 
 -- the value of a field, whichever byte ends it
-value_first : {A : Type 0} (value : List ℕ → Option A) (x : A) (field : List ℕ) (e : ℕ) (more : List ℕ) → IsField field → is_end e ≡ true →
+value_first : {A : Type 0} (value : List ℕ → Option A) (x : A) (field : List ℕ) (e : ℕ) (more : List ℕ) → IsField field → closes_field e ≡ true →
     value field ≡ Some x → read_field value ((field ++ e ∷ []) ++ more) ≡ Some (x, more)
 value_first {A} value x field e more f ends is =
     let first = first_field field e more f ends in
     ap (read_field value) (append_assoc field (e ∷ []) more)
-    ∙ then_reads (value (before_first is_end (field ++ e ∷ more))) x _ _ (ap value first.0 ∙ is)
+    ∙ then_reads (value (before_first closes_field (field ++ e ∷ more))) x _ _ (ap value first.0 ∙ is)
     (ap (λ (rest : List ℕ). Some (x, rest)) first.1)
 
 pub value_next : {A : Type 0} (value : List ℕ → Option A) (x : A) (field more : List ℕ) → IsField field → value field ≡ Some x →
@@ -67,11 +66,11 @@ value_last value x field more f is = value_first value x field 10 more f refl is
 same_bytes : (a b : List ℕ) → a ≡ b → bytes_eq a b ≡ true
 same_bytes a b h = (bytes_eq-Decides a b).1 h
 
-word_first : (word : List ℕ) (e : ℕ) (more : List ℕ) → IsField word → is_end e ≡ true → skip_word word ((word ++ e ∷ []) ++ more) ≡ Some more
+word_first : (word : List ℕ) (e : ℕ) (more : List ℕ) → IsField word → closes_field e ≡ true → skip_word word ((word ++ e ∷ []) ++ more) ≡ Some more
 word_first word e more f ends =
     let first = first_field word e more f ends in
     ap (skip_word word) (append_assoc word (e ∷ []) more)
-    ∙ rw (same_bytes (before_first is_end (word ++ e ∷ more)) word first.0) (ap (λ (rest : List ℕ). Some rest) first.1)
+    ∙ rw (same_bytes (before_first closes_field (word ++ e ∷ more)) word first.0) (ap (λ (rest : List ℕ). Some rest) first.1)
 
 pub word_next : (word more : List ℕ) → IsField word → skip_word word (field_text word ++ more) ≡ Some more
 word_next word more f = word_first word 32 more f refl
@@ -103,7 +102,7 @@ digits_again n (c ∷ ds) all small =
     let range : (48 ≤ c) × (c ≤ 57) × (digit_value c ≡ c - 48) = digit_range c all.0 in
     let below : n * 10 + (c - 48) < 2 ^ 64 = omega (arith, range.2, no_less (n * 10 + digit_value c) ds, small) in
     let one : next_digit n c ≡ Some (n * 10 + (c - 48)) =
-        rw (le-leb 48 c range.0, le-leb c 57 range.1, lt-ltb (n * 10 + (c - 48)) (2 ^ 64) below) refl in
+    rw (le-leb 48 c range.0, le-leb c 57 range.1, lt-ltb (n * 10 + (c - 48)) (2 ^ 64) below) refl in
     then_reads (next_digit n c) (n * 10 + (c - 48)) (λ (more : ℕ). number_onto more ds) _ one
     (ap (λ (d : ℕ). number_onto (n * 10 + d) ds) (sym range.2) ∙ digits_again (n * 10 + digit_value c) ds all.1 small)
 
@@ -124,8 +123,8 @@ pub dash_again : (value : List ℕ → Option ℕ) (o : Option ℕ) → IfSome o
 dash_again value None small is = refl
 dash_again value (Some n) small is =
     let other : bytes_eq (decimal n) (codes "-") ≡ false =
-        false_from_ne_true (bytes_eq (decimal n) (codes "-"))
-        (λ e. no_dash (decimal n) (decimal_is_IsNumeral n small).0 ((bytes_eq-Decides (decimal n) (codes "-")).0 e)) in
+    false_from_ne_true (bytes_eq (decimal n) (codes "-"))
+    (λ e. no_dash (decimal n) (decimal_is_IsNumeral n small).0 ((bytes_eq-Decides (decimal n) (codes "-")).0 e)) in
     rw other (ap (option_map (λ n. Some n)) is)
 
 pub dash_field : (o : Option ℕ) → IfSome o (λ n. n < 2 ^ 64) → IsField (number_or_dash o)
@@ -155,7 +154,7 @@ no_escape : (c : ℕ) (rest : List ℕ) → is_kept c ≡ true → escape_value 
 no_escape c rest h =
     let tail : Bool = is_octal_to 51 (slice_index (c ∷ rest) 1) && (is_octal_to 55 (slice_index (c ∷ rest) 2) && is_octal_to 55 (slice_index (c ∷ rest) 3)) in
     let none : (nat_le 4 (length (c ∷ rest)) && ((c == 92) && tail)) ≡ false =
-        ap (λ (b : Bool). nat_le 4 (length (c ∷ rest)) && (b && tail)) (kept_is_no_escape c h) ∙ not_both (nat_le 4 (length (c ∷ rest))) tail in
+    ap (λ (b : Bool). nat_le 4 (length (c ∷ rest)) && (b && tail)) (kept_is_no_escape c h) ∙ not_both (nat_le 4 (length (c ∷ rest))) tail in
     rw none refl
 
 octal_to : (most d : ℕ) → 48 + d ≤ most → is_octal_to most (48 + d) ≡ true
@@ -167,9 +166,9 @@ octal_sum c = omega arith
 escaped : (c : ℕ) (rest : List ℕ) → c < 256 → escape_value (92 ∷ (48 + c / 64) ∷ (48 + c / 8 % 8) ∷ (48 + c % 8) ∷ rest) ≡ Some c
 escaped c rest small =
     let tests : is_escape (92 ∷ (48 + c / 64) ∷ (48 + c / 8 % 8) ∷ (48 + c % 8) ∷ rest) ≡ true =
-        and_from _ _ (le-leb 4 (suc (suc (suc (suc (length rest))))) (omega arith))
-        (and_from _ _ refl
-        (and_from _ _ (octal_to 51 (c / 64) (omega (arith, small))) (and_from _ _ (octal_to 55 (c / 8 % 8) (omega arith)) (octal_to 55 (c % 8) (omega arith))))) in
+    and_from _ _ (le-leb 4 (suc (suc (suc (suc (length rest))))) (omega arith))
+    (and_from _ _ refl
+    (and_from _ _ (octal_to 51 (c / 64) (omega (arith, small))) (and_from _ _ (octal_to 55 (c / 8 % 8) (omega arith)) (octal_to 55 (c % 8) (omega arith))))) in
     rw tests (ap Some (octal_sum c))
 
 first_byte : (c : ℕ) (path : List ℕ) → AreBytes (c ∷ path) → c < 256

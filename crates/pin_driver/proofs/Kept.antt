@@ -1,18 +1,15 @@
 -- What each exchange keeps.
-use Rattle.std.proofs.Common.{◌≡◌, ◌⊎◌, ℕ, suc, ◌<◌, ◌≤◌, Option, Some, None, List, [], ◌∷◌, refl, sym, ap, ◌∙◌, subst, inl, inr, arith}
+use Rattle.std.proofs.Common.{◌≡◌, ◌⊎◌, ℕ, ◌<◌, Option, Some, None, List, ◌∷◌, refl, sym, subst, inl, inr, arith}
 use Rattle.std.proofs.lemmas.Bool.{cases_lt}
-use Rattle.pin_driver.specs.Driven.{IsRightQuestion, AreRightQuestions, IsRightStore, IsRightSet, IsTextOf, AreInPlace, standing_mark, settled, settled_more}
-use Rattle.pin_driver.specs.Exchanges.{Exchange, trouble_after, IsCalm, last_stored, stored_mark, first_cluster, waited, WasSet, IsSetAt, MayBeStored, MayStand, IsListed}
-use Rattle.pin_driver.specs.Troubles.{unlike_plan, store_trouble}
+use Rattle.pin_driver.specs.Driven.{IsRightQuestion, AreRightQuestions, IsRightStore, IsRightSet, IsTextOf, standing_mark, settled_places, settled_more}
+use Rattle.pin_driver.specs.Exchanges.{Exchange, trouble_after, IsCalm, last_stored, stored_mark, IsSetAt, MayBeStored, MayStand, HasPlace}
+use Rattle.pin_driver.specs.Troubles.{unlike_plan}
 use Rattle.pin_driver.specs.declared.answer.HostAnswer.{HostAnswer}
 use Rattle.pin_driver.specs.declared.answer.HostAnswer.TheVariants as answers
 use Rattle.pin_driver.specs.declared.plan.PlannedChange.{PlannedChange}
-use Rattle.pin_driver.specs.declared.question.Ending.{Ending}
-use Rattle.pin_driver.specs.declared.question.Ending.TheVariants.{Done, Stopped}
 use Rattle.pin_driver.specs.declared.question.Mark.{Mark}
 use Rattle.pin_driver.specs.declared.question.Question.{Question}
 use Rattle.pin_driver.specs.declared.question.Question.TheVariants as questions
-use Rattle.pin_driver.specs.declared.question.Trouble.{Trouble}
 use Rattle.pin_driver.specs.declared.task.Task.{Task}
 use Rattle.pin_driver.proofs.Answers.{stored_answer}
 use Rattle.pin_driver.proofs.Places.{descends_lists}
@@ -37,7 +34,7 @@ set_named x h i j pin change right e =
     rw was (omega (arith, right.stored.2, e))
 
 -- what is settled stays so
-listed_more : (q : Question) (a : HostAnswer) (places : List ℕ) (i : ℕ) → IsListed i places → IsListed i (settled_more q a places)
+listed_more : (q : Question) (a : HostAnswer) (places : List ℕ) (i : ℕ) → HasPlace i places → HasPlace i (settled_more q a places)
 listed_more (questions.Set j pin) answers.Done places i l = inr l
 listed_more (questions.Set j pin) answers.Gone places i l = inr l
 listed_more (questions.Set j pin) answers.Waited places i l = l
@@ -64,20 +61,20 @@ listed_more (questions.Store mark) a places i l = l
 listed_more questions.Roots a places i l = l
 listed_more (questions.End ending) a places i l = l
 
-sure_more : (x : Task) (q : Question) (a : HostAnswer) (h : List Exchange) (i : ℕ) → (i < x.first.certain) ⊎ IsListed i (settled h) →
-    (i < x.first.certain) ⊎ IsListed i (settled (record { asked = q; answer = a } ∷ h))
-sure_more x q a h i sure = elim sure [ inl old ↦ inl old | inr new ↦ inr (listed_more q a (settled h) i new) ]
+sure_more : (x : Task) (q : Question) (a : HostAnswer) (h : List Exchange) (i : ℕ) → (i < x.first.certain) ⊎ HasPlace i (settled_places h) →
+    (i < x.first.certain) ⊎ HasPlace i (settled_places (record { asked = q; answer = a } ∷ h))
+sure_more x q a h i sure = elim sure [ inl old ↦ inl old | inr new ↦ inr (listed_more q a (settled_places h) i new) ]
 
 -- what a right store says is certain
 sure_store : (x : Task) (mark : Mark) (h : List Exchange) → Kept x h → IsRightStore x mark h → (i : ℕ) → i < mark.certain →
-    (i < x.first.certain) ⊎ IsListed i (settled h)
+    (i < x.first.certain) ⊎ HasPlace i (settled_places h)
 sure_store x mark h kept right i lt = elim right.certain [
   | inl same ↦ kept.text.sure i (omega (arith, lt, same))
   | inr in_place ↦
-    elim (cases_lt i x.first.certain) [
-      | inl old ↦ inl old
-      | inr le ↦ inr (descends_lists mark.certain x.first.certain (settled h) in_place.order i lt le)
-    ]
+      elim (cases_lt i x.first.certain) [
+        | inl old ↦ inl old
+        | inr le ↦ inr (descends_lists mark.certain x.first.certain (settled_places h) in_place.order i lt le)
+      ]
 ]
 
 -- after a question that is no store the same text stands
@@ -105,7 +102,7 @@ text_more x (questions.Set j pin) a h kept none right =
 text_more x (questions.Store mark) a h kept none right =
     let stored : a ≡ answers.Stored = stored_answer a none in
     subst (λ (b : HostAnswer). IsTextOf x (record { asked = questions.Store mark; answer = a } ∷ h)
-        (standing_mark x.first (stored_mark (questions.Store mark) b (last_stored h)))) (sym stored)
+    (standing_mark x.first (stored_mark (questions.Store mark) b (last_stored h)))) (sym stored)
     (new_text x mark a h kept right)
 text_more x (questions.Wait n) a h kept none right =
     same_text x (questions.Wait n) a h (standing_mark x.first (last_stored h)) kept.text (λ i e. absurd e)

@@ -1,20 +1,17 @@
 -- What each exchange of a way back keeps.
-use Rattle.std.proofs.Common.{◌≡◌, ◌⊎◌, ℕ, suc, ◌<◌, ◌≤◌, Bool, true, false, cond, Option, Some, None, List, [], ◌∷◌, refl, sym, ap, ◌∙◌, subst, inl, inr, arith}
-use Rattle.std.proofs.lemmas.Bool.{cases_lt}
+use Rattle.std.proofs.Common.{◌≡◌, ℕ, Bool, true, false, cond, Option, None, List, ◌∷◌, refl, sym, subst, inl, inr, arith}
 use Rattle.pin_driver.specs.Driven.{standing_mark}
-use Rattle.pin_driver.specs.Exchanges.{Exchange, trouble_after, IsCalm, last_stored, stored_mark, WasSet, IsSetAt, MayBeStored, MayStand, Ascends, IsListed}
+use Rattle.pin_driver.specs.Exchanges.{Exchange, trouble_after, IsCalm, last_stored, stored_mark, IsSetAt, MayBeStored, MayStand, HasPlace}
 use Rattle.pin_driver.specs.Notes.{with_place}
 use Rattle.pin_driver.specs.declared.note.Note.TheVariants as notes
 use Rattle.pin_driver.specs.Restored.{IsRightBackQuestion, AreRightBackQuestions, IsRightNote, IsRightReturn, IsBackText, put_right, put_right_more}
-use Rattle.pin_driver.specs.Restoring.{any_directory, doubtful_mark, no_mark, restorable_at}
+use Rattle.pin_driver.specs.Restoring.{any_directory, restorable_at}
 use Rattle.pin_driver.specs.declared.answer.HostAnswer.{HostAnswer}
 use Rattle.pin_driver.specs.declared.answer.HostAnswer.TheVariants as answers
 use Rattle.pin_driver.specs.declared.plan.PlannedChange.{PlannedChange}
-use Rattle.pin_driver.specs.declared.question.Ending.{Ending}
 use Rattle.pin_driver.specs.declared.question.Mark.{Mark}
 use Rattle.pin_driver.specs.declared.question.Question.{Question}
 use Rattle.pin_driver.specs.declared.question.Question.TheVariants as questions
-use Rattle.pin_driver.specs.declared.question.Trouble.{Trouble}
 use Rattle.pin_driver.specs.declared.task.Task.{Task}
 use Rattle.pin_driver.proofs.Answers.{stored_answer}
 use Rattle.pin_driver.proofs.Places.{ascends_lists}
@@ -32,11 +29,11 @@ pub record ToldBack (x : Task) (h : List Exchange) : Type 0 where
   pub texts : (mark : Mark) → MayBeStored x.first h mark → IsBackText x h mark
 
 -- what is put right stays so
-listed_cond : (b : Bool) (i j : ℕ) (places : List ℕ) → IsListed i places → IsListed i (with_place (cond b notes.Nothing (notes.LeftAlone j)) places)
+listed_cond : (b : Bool) (i j : ℕ) (places : List ℕ) → HasPlace i places → HasPlace i (with_place (cond b notes.Nothing (notes.LeftAlone j)) places)
 listed_cond true i j places l = l
 listed_cond false i j places l = inr l
 
-listed_more : (x : Task) (q : Question) (a : HostAnswer) (places : List ℕ) (i : ℕ) → IsListed i places → IsListed i (put_right_more x q a places)
+listed_more : (x : Task) (q : Question) (a : HostAnswer) (places : List ℕ) (i : ℕ) → HasPlace i places → HasPlace i (put_right_more x q a places)
 listed_more x (questions.Set j pin) answers.Done places i l = inr l
 listed_more x (questions.Set j pin) answers.Gone places i l = inr l
 listed_more x (questions.Set j pin) answers.Waited places i l = l
@@ -79,15 +76,15 @@ new_text : (x : Task) (mark : Mark) (a : HostAnswer) (h : List Exchange) → IsR
     IsBackText x (record { asked = questions.Store mark; answer = a } ∷ h) mark
 new_text x mark a h right = elim right.one [
   | inl doubtful ↦
-    rw doubtful (record { within = omega arith; doubtful = inr refl; named = λ i lt. inr lt; before_sets = λ i w. refl })
+      rw doubtful (record { within = omega arith; doubtful = inr refl; named = λ i lt. inr lt; before_sets = λ i w. refl })
   | inr none ↦
-    rw none.0
-    (record {
-      within = omega arith;
-      doubtful = inr refl;
-      named = λ i lt. inl (ascends_lists 0 x.first.begun (put_right x h) none.1 i (omega arith) lt);
-      before_sets = λ i w. refl;
-    })
+      rw none.0
+      (record {
+        within = omega arith;
+        doubtful = inr refl;
+        named = λ i lt. inl (ascends_lists 0 x.first.begun (put_right x h) none.1 i (omega arith) lt);
+        before_sets = λ i w. refl;
+      })
 ]
 
 set_doubtful : (x : Task) (h : List Exchange) (i : ℕ) (pin : Option ℕ) (change : PlannedChange) → IsRightReturn x i pin change h →
@@ -102,7 +99,7 @@ text_more x (questions.Set j pin) a h kept none right =
 text_more x (questions.Store mark) a h kept none right =
     let stored : a ≡ answers.Stored = stored_answer a none in
     subst (λ (b : HostAnswer). IsBackText x (record { asked = questions.Store mark; answer = a } ∷ h)
-        (standing_mark x.first (stored_mark (questions.Store mark) b (last_stored h)))) (sym stored)
+    (standing_mark x.first (stored_mark (questions.Store mark) b (last_stored h)))) (sym stored)
     (new_text x mark a h right)
 text_more x (questions.Wait n) a h kept none right =
     same_text x (questions.Wait n) a h (standing_mark x.first (last_stored h)) kept.text (λ i e. absurd e)

@@ -1,9 +1,8 @@
 -- What a text that is written is read as.
-use Rattle.std.proofs.Common.{◌≡◌, ◌∙◌, ◌≢◌, ℕ, ◌<◌, ◌^◌, List, [], ◌++◌, codes, refl, sym, ap, subst, arith, Option, Some, None, Result, Ok, Err}
-use Rattle.std.specs.Prelude.{MatchResult}
+use Rattle.std.proofs.Common.{◌≡◌, ◌∙◌, ◌≢◌, ℕ, ◌<◌, ◌^◌, List, [], ◌++◌, codes, sym, ap, arith, Option, Some, Ok, Err}
 use Rattle.std.specs.Borrow.{Bor}
 use Rattle.pin_driver.specs.PinPlan.{PlanParts}
-use Rattle.pin_driver.specs.StoredReading.{FailsAs, FindsAs, HasVersion, IsOutOfMemory, read_body, read_count}
+use Rattle.pin_driver.specs.StoredReading.{FailsAs, HasVersion, IsOutOfMemory, read_body, read_count}
 use Rattle.pin_driver.specs.StoredText.{FitsText, body_text, stored_text, version_text}
 use Rattle.pin_driver.specs.declared.question.Mark.{Mark}
 use Rattle.pin_driver.specs.declared.text_error.TextError.{TextError}

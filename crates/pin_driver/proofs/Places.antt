@@ -1,16 +1,16 @@
 -- Lists of places that rise or fall by one.
-use Rattle.std.proofs.Common.{◌≡◌, ◌⊎◌, ℕ, suc, ◌<◌, ◌≤◌, List, [], ◌∷◌, inl, inr, arith}
+use Rattle.std.proofs.Common.{ℕ, suc, ◌<◌, ◌≤◌, List, [], ◌∷◌, inl, inr, arith}
 use Rattle.std.proofs.lemmas.Bool.{cases_lt}
-use Rattle.pin_driver.specs.Exchanges.{Ascends, Descends, IsListed}
+use Rattle.pin_driver.specs.Exchanges.{Ascends, Descends, HasPlace}
 
-pub ascends_lists : (from to : ℕ) (places : List ℕ) → Ascends from to places → (i : ℕ) → from ≤ i → i < to → IsListed i places
+pub ascends_lists : (from to : ℕ) (places : List ℕ) → Ascends from to places → (i : ℕ) → from ≤ i → i < to → HasPlace i places
 ascends_lists from to [] up i low high = absurd (omega (arith, up))
 ascends_lists from to (place ∷ places) up i low high = elim (cases_lt from i) [
   | inl more ↦ inr (ascends_lists (suc place) to places up.1 i (omega (arith, up.0)) high)
   | inr here ↦ inl (omega (arith, up.0))
 ]
 
-pub descends_lists : (from to : ℕ) (places : List ℕ) → Descends from to places → (i : ℕ) → i < from → to ≤ i → IsListed i places
+pub descends_lists : (from to : ℕ) (places : List ℕ) → Descends from to places → (i : ℕ) → i < from → to ≤ i → HasPlace i places
 descends_lists from to [] down i high low = absurd (omega (arith, down))
 descends_lists from to (place ∷ places) down i high low = elim (cases_lt i place) [
   | inl less ↦ inr (descends_lists place to places down.1 i less low)

@@ -1,24 +1,22 @@
 -- A restorer and its exchanges, one answer after the other.
-use Rattle.std.proofs.Common.{◌≡◌, ◌⊎◌, ℕ, suc, ◌+◌, ◌-◌, ◌<◌, ◌≤◌, Bool, true, false, not, ◌&&◌, ◌||◌, cond, Option, Some, None, List, [], ◌∷◌, length, refl, sym, ap, ◌∙◌, subst, inl, inr, arith}
-use Rattle.std.specs.Prelude.{IfSome, slice_get, nat_le, ◌==◌}
+use Rattle.std.proofs.Common.{◌≡◌, ◌⊎◌, ℕ, suc, ◌-◌, ◌<◌, ◌≤◌, Bool, true, false, not, ◌&&◌, cond, Option, Some, None, List, [], ◌∷◌, refl, sym, ap, ◌∙◌, subst, inl, inr, arith}
+use Rattle.std.specs.Prelude.{slice_get, nat_le}
 use Rattle.std.proofs.lemmas.Bool.{leb-true}
 use Rattle.std.proofs.lemmas.Bool.Decides.{eqb_tells}
-use Rattle.pin_driver.specs.Driven.{IsMark}
-use Rattle.pin_driver.specs.Exchanges.{Exchange, trouble_after, IsCalm, IsClusterLast, Ascends, MayBeStored, first_asked, last_stored, stored_mark, first_cluster, waited, named_cluster, or_later}
+use Rattle.pin_driver.specs.Exchanges.{Exchange, trouble_after, IsClusterLast, Ascends, MayBeStored, first_asked, last_stored, stored_mark, first_cluster, named_cluster, or_later}
 use Rattle.pin_driver.specs.Notes.{with_place}
 use Rattle.pin_driver.specs.declared.note.Note.TheVariants as kinds
-use Rattle.pin_driver.specs.Restored.{IsRightBackQuestion, AreRightBackQuestions, IsRightNote, IsRightReturn, IsRightBackEnd, IsBackText, IsRestored, IsOurs, IsFoundOurs, put_right, put_right_more}
-use Rattle.pin_driver.specs.Restoring.{any_directory, doubtful_mark, no_mark, restorable_at, is_restorable, is_given, is_to_restore, pin_before, restored_one}
+use Rattle.pin_driver.specs.Restored.{IsRightBackQuestion, AreRightBackQuestions, IsRightReturn, IsRightBackEnd, IsBackText, IsRestored, IsOurDirectory, IsFoundOurs, put_right, put_right_more}
+use Rattle.pin_driver.specs.Restoring.{any_directory, doubtful_mark, no_mark, restorable_at, is_restorable, is_given, former_pin, restored_one}
 use Rattle.pin_driver.specs.Restoring.{restorer_after, restorer_question, restorer_question_in, restorer_run, restorer_start, restorer_trouble, restorer_advanced, restorer_verdict, restorer_ended}
-use Rattle.pin_driver.specs.Setting.{noted}
+use Rattle.pin_driver.specs.Setting.{with_exchange}
 use Rattle.pin_driver.specs.Troubles.{trouble, is_inode, is_same_pin}
 use Rattle.pin_driver.specs.declared.answer.ClusterState.{ClusterState}
 use Rattle.pin_driver.specs.declared.answer.FoundPin.{FoundPin}
 use Rattle.pin_driver.specs.declared.answer.HostAnswer.{HostAnswer}
 use Rattle.pin_driver.specs.declared.answer.HostAnswer.TheVariants as answers
 use Rattle.pin_driver.specs.declared.plan.PlannedChange.{PlannedChange}
-use Rattle.pin_driver.specs.declared.question.Ending.{Ending}
-use Rattle.pin_driver.specs.declared.question.Ending.TheVariants.{Done, Stopped}
+use Rattle.pin_driver.specs.declared.question.Ending.TheVariants.{Stopped}
 use Rattle.pin_driver.specs.declared.question.Mark.{Mark}
 use Rattle.pin_driver.specs.declared.question.Question.{Question}
 use Rattle.pin_driver.specs.declared.question.Question.TheVariants as questions
@@ -69,11 +67,11 @@ one_more left to places more up = let same : left ≡ suc (left - 1) = omega (ar
 
 -- what is asked is right
 asks_set : (x : Task) (s : RestorerState) (h : List Exchange) → LiveBack x s h → (to : ToRestore x s h) →
-    IsRightReturn x (s.left - 1) (pin_before (slice_get x.plan.changes (s.left - 1))) to.change h
+    IsRightReturn x (s.left - 1) (former_pin (slice_get x.plan.changes (s.left - 1))) to.change h
 asks_set x s h live to =
     record {
       planned = to.planned;
-      pin_of_plan = ap pin_before to.planned;
+      pin_of_plan = ap former_pin to.planned;
       begun = omega (arith, to.more, live.left);
       order = one_more s.left x.first.begun (put_right x h) to.more live.order;
       stored = to.noted.stored;
@@ -89,8 +87,10 @@ asks_back phases.Noting x s h e i = (i.0, record { one = inl refl; calm = i.0.ke
 asks_back phases.Checking x s h e i = (i.0, tt)
 asks_back phases.Getting x s h e i = (i.0, tt)
 asks_back phases.Restoring x s h e i = (i.0, (i.1.change, asks_set x s h i.0 i.1))
-asks_back phases.Closing x s h e i = (i.0,
-  record { one = inr (refl, subst (λ (n : ℕ). Ascends n x.first.begun (put_right x h)) i.2 i.0.order); calm = i.0.kept.calm })
+asks_back phases.Closing x s h e i = (
+  i.0,
+  record { one = inr (refl, subst (λ (n : ℕ). Ascends n x.first.begun (put_right x h)) i.2 i.0.order); calm = i.0.kept.calm },
+)
 asks_back (phases.Ended ending) x s h e i = absurd cc
 
 -- a trouble by the state is one by the exchanges
@@ -129,8 +129,7 @@ opens : (x : Task) (s : RestorerState) (h : List Exchange) (a : HostAnswer) → 
     trouble any_directory s.cluster x.pace.longest_wait questions.Cluster a ≡ None → KeptBack x (next questions.Cluster a h) →
     IsBack x (restorer_advanced phases.Opening x s a) (next questions.Cluster a h)
 opens x s h a i none kept =
-    let found : (c : ClusterState) × (a ≡ answers.Cluster c) = cluster_answer s.cluster a none in
-    (
+    let found : (c : ClusterState) × (a ≡ answers.Cluster c) = cluster_answer s.cluster a none in (
       record {
         kept = kept;
         cluster = ap (λ (c : Option ClusterState). or_later c (named_cluster a)) (i.0.cluster ∙ i.1);
@@ -191,26 +190,25 @@ given certain i change pin e =
     elim (either (is_same_pin pin change.after) (not (not (nat_le certain i)) && is_same_pin pin change.before) e) [
       | inl new ↦ inl (same_pin pin change.after new)
       | inr old ↦
-        let parts : (not (not (nat_le certain i)) ≡ true) × (is_same_pin pin change.before ≡ true) =
-            both (not (not (nat_le certain i))) (is_same_pin pin change.before) old in
-        inr (leb-true certain i (not_not (nat_le certain i) parts.0), same_pin pin change.before parts.1)
+          let parts : (not (not (nat_le certain i)) ≡ true) × (is_same_pin pin change.before ≡ true) =
+          both (not (not (nat_le certain i))) (is_same_pin pin change.before) old in
+          inr (leb-true certain i (not_not (nat_le certain i) parts.0), same_pin pin change.before parts.1)
     ]
 
 ours : (x : Task) (i : ℕ) (found : FoundPin) (change : Option PlannedChange) →
-    is_restorable (not (nat_le x.first.certain i)) change found ≡ true → (c : PlannedChange) × (change ≡ Some c) × IsOurs x i c found
+    is_restorable (not (nat_le x.first.certain i)) change found ≡ true → (c : PlannedChange) × (change ≡ Some c) × IsOurDirectory x i c found
 ours x i found None e = absurd cc
 ours x i found (Some c) e =
     let parts : (is_inode c.inode found.inode ≡ true) × (is_given (not (nat_le x.first.certain i)) c found.pin ≡ true) =
-        both (is_inode c.inode found.inode) (is_given (not (nat_le x.first.certain i)) c found.pin) e in
+    both (is_inode c.inode found.inode) (is_given (not (nat_le x.first.certain i)) c found.pin) e in
     (c, refl, record { inode = same_inode c.inode found.inode parts.0; pin = given x.first.certain i c found.pin parts.1 })
 
 found_one : (b : Bool) (x : Task) (s : RestorerState) (h : List Exchange) (found : FoundPin) → restorable_at x (s.left - 1) found ≡ b →
     InBackPhase phases.Getting x s h → KeptBack x (next (questions.Get (s.left - 1)) (answers.Found found) h) →
     IsBack x (cond b (record s { phase = phases.Restoring }) (restored_one s)) (next (questions.Get (s.left - 1)) (answers.Found found) h)
 found_one true x s h found e i kept =
-    let plan : (c : PlannedChange) × (slice_get x.plan.changes (s.left - 1) ≡ Some c) × IsOurs x (s.left - 1) c found =
-        ours x (s.left - 1) found (slice_get x.plan.changes (s.left - 1)) e in
-    (
+    let plan : (c : PlannedChange) × (slice_get x.plan.changes (s.left - 1) ≡ Some c) × IsOurDirectory x (s.left - 1) c found =
+    ours x (s.left - 1) found (slice_get x.plan.changes (s.left - 1)) e in (
       record {
         kept = kept;
         cluster = or_nothing (first_cluster h) ∙ i.0.cluster;
@@ -235,12 +233,12 @@ gets : (x : Task) (s : RestorerState) (h : List Exchange) (a : HostAnswer) → I
     IsBack x (restorer_advanced phases.Getting x s a) (next (questions.Get (s.left - 1)) a h)
 gets x s h a i none kept = elim (get_answer (any_directory (s.left - 1)) a none) [
   | inl gone ↦
-    let P : HostAnswer → Type 0 = λ b. KeptBack x (next (questions.Get (s.left - 1)) b h) → IsBack x (restorer_advanced phases.Getting x s b) (next (questions.Get (s.left - 1)) b h) in
-    subst P (sym gone)
-    (λ k. passes x s h (next (questions.Get (s.left - 1)) answers.Gone h) i.0 i.1 i.2 k (or_nothing (first_cluster h)) refl refl) kept
+      let P : HostAnswer → Type 0 = λ b. KeptBack x (next (questions.Get (s.left - 1)) b h) → IsBack x (restorer_advanced phases.Getting x s b) (next (questions.Get (s.left - 1)) b h) in
+      subst P (sym gone)
+      (λ k. passes x s h (next (questions.Get (s.left - 1)) answers.Gone h) i.0 i.1 i.2 k (or_nothing (first_cluster h)) refl refl) kept
   | inr found ↦
-    let P : HostAnswer → Type 0 = λ b. KeptBack x (next (questions.Get (s.left - 1)) b h) → IsBack x (restorer_advanced phases.Getting x s b) (next (questions.Get (s.left - 1)) b h) in
-    subst P (sym found.1) (λ k. found_one (restorable_at x (s.left - 1) found.0) x s h found.0 refl i k) kept
+      let P : HostAnswer → Type 0 = λ b. KeptBack x (next (questions.Get (s.left - 1)) b h) → IsBack x (restorer_advanced phases.Getting x s b) (next (questions.Get (s.left - 1)) b h) in
+      subst P (sym found.1) (λ k. found_one (restorable_at x (s.left - 1) found.0) x s h found.0 refl i k) kept
 ]
 
 sets : (x : Task) (s : RestorerState) (h : List Exchange) (a : HostAnswer) → InBackPhase phases.Restoring x s h →
@@ -249,11 +247,11 @@ sets : (x : Task) (s : RestorerState) (h : List Exchange) (a : HostAnswer) → I
     IsBack x (restorer_advanced phases.Restoring x s a) (next (restorer_question_in phases.Restoring x s) a h)
 sets x s h a i none kept = elim (set_answer a none) [
   | inl done ↦
-    passes x s h (next (restorer_question_in phases.Restoring x s) a h) i.0 i.1.noted i.1.more kept (or_nothing (first_cluster h))
-    (ap (λ (b : HostAnswer). put_right_more x (restorer_question_in phases.Restoring x s) b (put_right x h)) done) refl
+      passes x s h (next (restorer_question_in phases.Restoring x s) a h) i.0 i.1.noted i.1.more kept (or_nothing (first_cluster h))
+      (ap (λ (b : HostAnswer). put_right_more x (restorer_question_in phases.Restoring x s) b (put_right x h)) done) refl
   | inr gone ↦
-    passes x s h (next (restorer_question_in phases.Restoring x s) a h) i.0 i.1.noted i.1.more kept (or_nothing (first_cluster h))
-    (ap (λ (b : HostAnswer). put_right_more x (restorer_question_in phases.Restoring x s) b (put_right x h)) gone) refl
+      passes x s h (next (restorer_question_in phases.Restoring x s) a h) i.0 i.1.noted i.1.more kept (or_nothing (first_cluster h))
+      (ap (λ (b : HostAnswer). put_right_more x (restorer_question_in phases.Restoring x s) b (put_right x h)) gone) refl
 ]
 
 closes : (x : Task) (s : RestorerState) (h : List Exchange) (a : HostAnswer) → InBackPhase phases.Closing x s h →
@@ -261,15 +259,18 @@ closes : (x : Task) (s : RestorerState) (h : List Exchange) (a : HostAnswer) →
     KeptBack x (next (questions.Store no_mark) a h) →
     IsBack x (restorer_advanced phases.Closing x s a) (next (questions.Store no_mark) a h)
 closes x s h a i none kept = (
-  told_back x (next (questions.Store no_mark) a h) kept, (
-    refl, stored_answer a none, subst (λ (n : ℕ). Ascends n x.first.begun (put_right x h)) i.2 i.0.order,
+  told_back x (next (questions.Store no_mark) a h) kept,
+  (
+    refl,
+    stored_answer a none,
+    subst (λ (n : ℕ). Ascends n x.first.begun (put_right x h)) i.2 i.0.order,
   ),
 )
 
 -- a restorer after an answer that is no trouble
 goes_on : (p : RestorerPhase) (x : Task) (s : RestorerState) (h : List Exchange) (a : HostAnswer) → s.phase ≡ p → InBackPhase p x s h →
     trouble any_directory s.cluster x.pace.longest_wait (restorer_question_in p x s) a ≡ None →
-    IsBack x (restorer_advanced p x s a) (noted (restorer_ended p) (record { asked = restorer_question_in p x s; answer = a }) h)
+    IsBack x (restorer_advanced p x s a) (with_exchange (restorer_ended p) (record { asked = restorer_question_in p x s; answer = a }) h)
 goes_on phases.Resting x s h a e i none = rests x s h a i (kept_back phases.Resting x s h a refl i none)
 goes_on phases.Opening x s h a e i none = opens x s h a i none (kept_back phases.Opening x s h a refl i none)
 goes_on phases.Noting x s h a e i none = notes x s h a i none (kept_back phases.Noting x s h a refl i none)
@@ -289,7 +290,7 @@ stops_on p x s h a t e i some =
 stops : (p : RestorerPhase) (x : Task) (s : RestorerState) (h : List Exchange) (a : HostAnswer) (t : Trouble) → InBackPhase p x s h →
     trouble any_directory s.cluster x.pace.longest_wait (restorer_question_in p x s) a ≡ Some t →
     IsBack x (record s { phase = phases.Ended (Stopped t) })
-    (noted (restorer_ended p) (record { asked = restorer_question_in p x s; answer = a }) h)
+    (with_exchange (restorer_ended p) (record { asked = restorer_question_in p x s; answer = a }) h)
 stops phases.Resting x s h a t i some = stops_on phases.Resting x s h a t refl i some
 stops phases.Opening x s h a t i some = stops_on phases.Opening x s h a t refl i some
 stops phases.Noting x s h a t i some = stops_on phases.Noting x s h a t refl i some
@@ -301,7 +302,7 @@ stops (phases.Ended ending) x s h a t i some = absurd cc
 
 -- a restorer after an answer
 one_step : (x : Task) (s : RestorerState) (h : List Exchange) (a : HostAnswer) (v : Option Trouble) → restorer_trouble x s a ≡ v → IsBack x s h →
-    IsBack x (restorer_verdict v x s a) (noted (restorer_ended s.phase) (record { asked = restorer_question x s; answer = a }) h)
+    IsBack x (restorer_verdict v x s a) (with_exchange (restorer_ended s.phase) (record { asked = restorer_question x s; answer = a }) h)
 one_step x s h a None e i = goes_on s.phase x s h a refl i e
 one_step x s h a (Some t) e i = stops s.phase x s h a t i e
 
@@ -309,7 +310,7 @@ runs : (x : Task) (s : RestorerState) (h : List Exchange) (more : List HostAnswe
     IsBack x (restorer_run x s h more).0 (restorer_run x s h more).1
 runs x s h [] i = i
 runs x s h (a ∷ more) i =
-    runs x (restorer_after x s a) (noted (restorer_ended s.phase) (record { asked = restorer_question x s; answer = a }) h) more
+    runs x (restorer_after x s a) (with_exchange (restorer_ended s.phase) (record { asked = restorer_question x s; answer = a }) h) more
     (one_step x s h a (restorer_trouble x s a) refl i)
 
 -- an end stays
@@ -331,7 +332,7 @@ restorer_stays x s a e =
 
 -- what was asked first
 first_one : (p : RestorerPhase) (x : Task) (s : RestorerState) (h : List Exchange) (a : HostAnswer) → s.phase ≡ p →
-    first_asked (restorer_question x (restorer_after x s a)) (noted (restorer_ended p) (record { asked = restorer_question x s; answer = a }) h)
+    first_asked (restorer_question x (restorer_after x s a)) (with_exchange (restorer_ended p) (record { asked = restorer_question x s; answer = a }) h)
     ≡ first_asked (restorer_question x s) h
 first_one phases.Resting x s h a e = refl
 first_one phases.Opening x s h a e = refl
@@ -347,7 +348,7 @@ first_run : (x : Task) (s : RestorerState) (h : List Exchange) (more : List Host
     first_asked (restorer_question x (restorer_run x s h more).0) (restorer_run x s h more).1 ≡ first_asked (restorer_question x s) h
 first_run x s h [] = refl
 first_run x s h (a ∷ more) =
-    first_run x (restorer_after x s a) (noted (restorer_ended s.phase) (record { asked = restorer_question x s; answer = a }) h) more
+    first_run x (restorer_after x s a) (with_exchange (restorer_ended s.phase) (record { asked = restorer_question x s; answer = a }) h) more
     ∙ first_one s.phase x s h a refl
 
 pub record Returns (x : Task) (h : List Exchange) (q : Question) : Type 0 where
@@ -392,5 +393,5 @@ pub returns : (x : Task) (more : List HostAnswer) →
 returns x more =
     let end : RestorerState × List Exchange = restorer_run x (restorer_start x) [] more in
     let all : Returns x end.1 (restorer_question x end.0) =
-        returns_in end.0.phase x end.0 end.1 (runs x (restorer_start x) [] more (starts x)) in
+    returns_in end.0.phase x end.0 end.1 (runs x (restorer_start x) [] more (starts x)) in
     record { right = all.right; next = all.next; texts = all.texts; rests = first_run x (restorer_start x) [] more }

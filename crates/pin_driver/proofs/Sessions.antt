@@ -1,9 +1,9 @@
 -- Runs of setters and restorers, one after the other.
-use Rattle.std.proofs.Common.{◌≡◌, ◌⊎◌, ℕ, ◌<◌, ◌≤◌, Bool, true, false, List, [], ◌∷◌, length, refl, sym, ap, subst, inl, inr, arith}
-use Rattle.pin_driver.specs.Driven.{IsDriven, IsMark, IsTextOf, settled}
-use Rattle.pin_driver.specs.Exchanges.{Exchange, IsListed, MayBeStored, WasSet}
-use Rattle.pin_driver.specs.Restored.{IsBackText, IsRestored, put_right}
-use Rattle.pin_driver.specs.Sessions.{AreAccounted, AreSessions, IsSettled, MayBeLeft, MayBeOurs, OursAfter, SettledAfter, Session}
+use Rattle.std.proofs.Common.{ℕ, ◌<◌, Bool, true, false, List, [], ◌∷◌, length, subst, inl, inr, arith}
+use Rattle.pin_driver.specs.Driven.{IsMark, IsTextOf}
+use Rattle.pin_driver.specs.Exchanges.{Exchange, MayBeStored}
+use Rattle.pin_driver.specs.Restored.{IsBackText}
+use Rattle.pin_driver.specs.Sessions.{AreAccounted, AreSessions, IsMadeSure, MayBeLeft, MayBeOurs, OursAfter, SettledAfter, Session}
 use Rattle.pin_driver.specs.Sessions.{exchanges_of, restorer_exchanges, session_exchanges, session_task, setter_exchanges}
 use Rattle.pin_driver.specs.declared.plan.PinPlan.{PinPlan}
 use Rattle.pin_driver.specs.declared.question.Mark.{Mark}
@@ -27,15 +27,13 @@ after_one : (back : Bool) (x : Task) (more : List HostAnswer) (mark : Mark) (Our
     × ((i : ℕ) → OursAfter back x (exchanges_of back x more) i (Ours i) → i < mark.begun)
     × ((i : ℕ) → i < mark.certain → SettledAfter back (exchanges_of back x more) i (Settled i))
 after_one false x more mark Ours Settled sound ours certain m =
-    let text : IsTextOf x (setter_exchanges x more) mark = (drives x more sound).texts mark m in
-    (
+    let text : IsTextOf x (setter_exchanges x more) mark = (drives x more sound).texts mark m in (
       text.sound,
       λ i w. elim w [ inl set ↦ text.ours i set | inr before ↦ omega (arith, ours i before, text.grown) ],
       λ i lt. elim (text.sure i lt) [ inl old ↦ inr (certain i old) | inr new ↦ inl new ],
     )
 after_one true x more mark Ours Settled sound ours certain m =
-    let text : IsBackText x (restorer_exchanges x more) mark = (returns x more).texts mark m in
-    (
+    let text : IsBackText x (restorer_exchanges x more) mark = (returns x more).texts mark m in (
       back_sound x (restorer_exchanges x more) mark sound text,
       λ i w. elim (text.named i (ours i w.0)) [ inl right ↦ absurd (w.1 right) | inr named ↦ named ],
       λ i lt. (
@@ -54,9 +52,9 @@ accounts plan start [] mark sound are m =
 accounts plan start (s ∷ older) mark sound are m =
     let before : AreAccounted plan start older s.first = accounts plan start older s.first sound are.1 are.0 in
     let P : ℕ → Type 0 = λ i. MayBeOurs plan start older i in
-    let Q : ℕ → Type 0 = λ i. IsSettled plan start older i in
+    let Q : ℕ → Type 0 = λ i. IsMadeSure plan start older i in
     let after : IsMark mark (length plan.changes)
-            × ((i : ℕ) → OursAfter s.way_back (session_task plan s) (session_exchanges plan s) i (P i) → i < mark.begun)
-            × ((i : ℕ) → i < mark.certain → SettledAfter s.way_back (session_exchanges plan s) i (Q i)) =
-        after_one s.way_back (session_task plan s) s.answers mark P Q before.sound before.ours before.certain m in
+    × ((i : ℕ) → OursAfter s.way_back (session_task plan s) (session_exchanges plan s) i (P i) → i < mark.begun)
+    × ((i : ℕ) → i < mark.certain → SettledAfter s.way_back (session_exchanges plan s) i (Q i)) =
+    after_one s.way_back (session_task plan s) s.answers mark P Q before.sound before.ours before.certain m in
     record { sound = after.0; ours = after.1; certain = after.2 }

@@ -1,23 +1,21 @@
 -- A setter and its exchanges, one answer after the other.
 use Rattle.std.proofs.Common.{◌≡◌, ◌⊎◌, ℕ, suc, ◌+◌, ◌-◌, ◌<◌, ◌≤◌, Bool, true, false, not, ◌&&◌, ◌||◌, min, max, cond, Option, Some, None, List, [], ◌∷◌, length, refl, sym, ap, ◌∙◌, subst, inl, inr, arith}
-use Rattle.std.specs.Prelude.{IfSome, slice_get, nat_lt, nat_le, drop, ◌==◌, if◌then◌else◌}
-use Rattle.std.proofs.lemmas.Bool.{cases_Bool, cases_lt, ltb-false, ltb-true, le-ltb, lt-ltb, eqb-true, eq-eqb, eqb-false, le-leb, lt-leb}
-use Rattle.std.proofs.lemmas.Grind.{common_steps}
-use Rattle.std.proofs.lemmas.Bool.Decides.{nat_tests, eqb_tells}
-use Rattle.pin_driver.specs.Driven.{IsRightQuestion, AreRightQuestions, IsRightStore, IsRightSet, IsRightEnd, IsAllDone, IsTextOf, HasTrouble, IsDriven, IsMark, AreInPlace, IsChecked, IsAsPlanned}
-use Rattle.pin_driver.specs.Driven.{standing_mark, settled, settled_more}
-use Rattle.pin_driver.specs.Exchanges.{Exchange, trouble_after, IsCalm, IsClusterLast, Descends, first_asked, last_stored, stored_mark, first_cluster, waited, looks_in_place, WasSet, MayBeStored}
-use Rattle.pin_driver.specs.Exchanges.{is_in_place, looks_after, named_cluster, or_later, looks_more, asked_cluster, waited_more}
-use Rattle.pin_driver.specs.Setting.{setter_after, setter_question, setter_run, setter_start, setter_trouble, question_in, advanced, after_verdict, noted, has_ended}
-use Rattle.pin_driver.specs.Setting.{begin_batch, batch_end, closed_mark, pin_after, passed, looked, closed, is_gone, after_store}
+use Rattle.std.specs.Prelude.{IfSome, slice_get, nat_lt}
+use Rattle.std.proofs.lemmas.Bool.{cases_lt, ltb-true, le-ltb, lt-ltb, eqb-true, le-leb, lt-leb}
+use Rattle.std.proofs.lemmas.Bool.Decides.{eqb_tells}
+use Rattle.pin_driver.specs.Driven.{IsRightQuestion, AreRightQuestions, IsRightStore, IsRightEnd, IsTextOf, IsDriven, IsMark, IsLookedAt, IsAsPlanned}
+use Rattle.pin_driver.specs.Driven.{standing_mark, settled_places, settled_more}
+use Rattle.pin_driver.specs.Exchanges.{Exchange, trouble_after, IsClusterLast, Descends, first_asked, last_stored, stored_mark, first_cluster, waited, looks_in_place, MayBeStored}
+use Rattle.pin_driver.specs.Exchanges.{is_in_place, looks_after, named_cluster, or_later}
+use Rattle.pin_driver.specs.Setting.{setter_after, setter_question, setter_run, setter_start, setter_trouble, question_in, advanced, after_verdict, with_exchange, has_ended}
+use Rattle.pin_driver.specs.Setting.{begin_batch, batch_end, closed_mark, given_pin, passed, looked, after_store}
 use Rattle.pin_driver.specs.Troubles.{trouble, unlike_plan, unlike_change, is_inode, is_expected, is_same_pin}
 use Rattle.pin_driver.specs.declared.answer.ClusterState.{ClusterState}
 use Rattle.pin_driver.specs.declared.answer.FoundPin.{FoundPin}
 use Rattle.pin_driver.specs.declared.answer.HostAnswer.{HostAnswer}
 use Rattle.pin_driver.specs.declared.answer.HostAnswer.TheVariants as answers
 use Rattle.pin_driver.specs.declared.plan.PlannedChange.{PlannedChange}
-use Rattle.pin_driver.specs.declared.question.Ending.{Ending}
-use Rattle.pin_driver.specs.declared.question.Ending.TheVariants.{Done, Stopped}
+use Rattle.pin_driver.specs.declared.question.Ending.TheVariants.{Stopped}
 use Rattle.pin_driver.specs.declared.question.Mark.{Mark}
 use Rattle.pin_driver.specs.declared.question.Question.{Question}
 use Rattle.pin_driver.specs.declared.question.Question.TheVariants as questions
@@ -37,7 +35,7 @@ pub record Live (x : Task) (s : SetterState) (h : List Exchange) : Type 0 where
   pub cluster : first_cluster h ≡ s.cluster
   pub left : x.pace.longest_wait - waited h ≡ s.left
   pub looks : looks_in_place h + s.still ≡ LOOKS
-  pub order : Descends s.at x.first.certain (settled h)
+  pub order : Descends s.at x.first.certain (settled_places h)
   pub begun : x.first.begun ≤ s.mark.begun
   pub sound : IsMark s.mark (length x.plan.changes)
   pub at : s.at ≤ s.mark.begun
@@ -69,7 +67,7 @@ pub record ToSet (x : Task) (s : SetterState) (h : List Exchange) : Type 0 where
   pub more : s.at < s.mark.begun
   pub change : PlannedChange
   pub planned : slice_get x.plan.changes s.at ≡ Some change
-  pub checked : IsChecked x s.at change h
+  pub checked : IsLookedAt x s.at change h
 
 pub record ToLook (s : SetterState) (h : List Exchange) : Type 0 where
   pub noted : Noted s h
@@ -104,7 +102,7 @@ ask_close x s h live to =
       grows = rw to.stored (omega arith);
       batch = rw to.stored (omega arith);
       sound = record { begun = live.sound.begun; certain = omega arith };
-      certain = inr (record { order = subst (λ (n : ℕ). Descends n x.first.certain (settled h)) to.all live.order; looks = to.looks });
+      certain = inr (record { order = subst (λ (n : ℕ). Descends n x.first.certain (settled_places h)) to.all live.order; looks = to.looks });
       calm = live.kept.calm;
     }
 
@@ -117,15 +115,17 @@ asks phases.Checking x s h e i = (i.0, tt)
 asks phases.Getting x s h e i = (i.0, tt)
 asks phases.Setting x s h e i = (
   i.0,
-  (i.1.change,
+  (
+    i.1.change,
     record {
       planned = i.1.planned;
-      pin_of_plan = ap pin_after i.1.planned;
+      pin_of_plan = ap given_pin i.1.planned;
       order = i.0.order;
       stored = (s.mark, i.1.noted.stored, i.1.more);
       checked = i.1.checked;
       calm = i.0.kept.calm;
-    }),
+    },
+  ),
 )
 asks phases.Looking x s h e i = (i.0, i.2)
 asks phases.Pausing x s h e i = (i.0, tt)
@@ -152,8 +152,7 @@ kept_on p x s h a e i none =
 rests : (x : Task) (s : SetterState) (h : List Exchange) (a : HostAnswer) → InPhase phases.Resting x s h →
     Kept x (next (questions.Wait REST_SECONDS) a h) → Is x (advanced phases.Resting x s a) (next (questions.Wait REST_SECONDS) a h)
 rests x s h a i kept =
-    let live : Live x s h = i.0 in
-    (
+    let live : Live x s h = i.0 in (
       record {
         kept = kept;
         cluster = grind (arith, live.cluster);
@@ -281,11 +280,10 @@ checks x s h a i kept = elim (cases_lt s.at s.mark.begun) [
 
 -- the change is settled
 passes : (x : Task) (s : SetterState) (h k : List Exchange) → Live x s h → Noted s h → s.at < s.mark.begun → Kept x k →
-    first_cluster k ≡ first_cluster h → waited k ≡ waited h → looks_in_place k ≡ 0 → settled k ≡ s.at ∷ settled h →
+    first_cluster k ≡ first_cluster h → waited k ≡ waited h → looks_in_place k ≡ 0 → settled_places k ≡ s.at ∷ settled_places h →
     last_stored k ≡ last_stored h → Is x (passed s) k
 passes x s h k live noted more kept cluster waits looks places stored =
-    let at : min s.mark.begun (s.at + 1) ≡ suc s.at = omega (arith, more) in
-    (
+    let at : min s.mark.begun (s.at + 1) ≡ suc s.at = omega (arith, more) in (
       record {
         kept = kept;
         cluster = cluster ∙ live.cluster;
@@ -329,8 +327,8 @@ expected i begun change pin e =
     elim (either (is_same_pin pin change.before) (nat_lt i begun && is_same_pin pin change.after) e) [
       | inl old ↦ inl (same_pin pin change.before old)
       | inr new ↦
-        let parts : (nat_lt i begun ≡ true) × (is_same_pin pin change.after ≡ true) = both (nat_lt i begun) (is_same_pin pin change.after) new in
-        inr (ltb-true i begun parts.0, same_pin pin change.after parts.1)
+          let parts : (nat_lt i begun ≡ true) × (is_same_pin pin change.after ≡ true) = both (nat_lt i begun) (is_same_pin pin change.after) new in
+          inr (ltb-true i begun parts.0, same_pin pin change.after parts.1)
     ]
 
 planned : (x : Task) (i : ℕ) (found : FoundPin) → (change : Option PlannedChange) →
@@ -339,46 +337,47 @@ planned : (x : Task) (i : ℕ) (found : FoundPin) → (change : Option PlannedCh
 planned x i found None none = absurd cc
 planned x i found (Some c) none =
     let right : (is_inode c.inode found.inode ≡ true)
-            × (cond (not (is_expected (nat_lt i x.first.begun) c found.pin)) (Some troubles.PinChanged) None ≡ None) =
-        no_trouble (is_inode c.inode found.inode) troubles.OtherDirectory
-        (cond (not (is_expected (nat_lt i x.first.begun) c found.pin)) (Some troubles.PinChanged) None) none in
+    × (cond (not (is_expected (nat_lt i x.first.begun) c found.pin)) (Some troubles.PinChanged) None ≡ None) =
+    no_trouble (is_inode c.inode found.inode) troubles.OtherDirectory
+    (cond (not (is_expected (nat_lt i x.first.begun) c found.pin)) (Some troubles.PinChanged) None) none in
     let nothing : Option Trouble = None in
     let same : (is_expected (nat_lt i x.first.begun) c found.pin ≡ true) × (nothing ≡ None) =
-        no_trouble (is_expected (nat_lt i x.first.begun) c found.pin) troubles.PinChanged None right.1 in
+    no_trouble (is_expected (nat_lt i x.first.begun) c found.pin) troubles.PinChanged None right.1 in
     (c, refl, record { inode = same_inode c.inode found.inode right.0; pin = expected i x.first.begun c found.pin same.0 })
+
 gets : (x : Task) (s : SetterState) (h : List Exchange) (a : HostAnswer) → InPhase phases.Getting x s h →
     trouble (unlike_plan x) s.cluster s.left (questions.Get s.at) a ≡ None →
     Kept x (next (questions.Get s.at) a h) → Is x (advanced phases.Getting x s a) (next (questions.Get s.at) a h)
 gets x s h a i none kept = elim (get_answer (unlike_plan x s.at) a none) [
   | inl gone ↦
-    let P : HostAnswer → Type 0 = λ b. Kept x (next (questions.Get s.at) b h) → Is x (advanced phases.Getting x s b) (next (questions.Get s.at) b h) in
-    subst P (sym gone) (λ k. passes x s h (next (questions.Get s.at) answers.Gone h) i.0 i.1.noted i.1.more k (or_nothing (first_cluster h)) refl (i.0.fresh i.1.more) refl refl) kept
+      let P : HostAnswer → Type 0 = λ b. Kept x (next (questions.Get s.at) b h) → Is x (advanced phases.Getting x s b) (next (questions.Get s.at) b h) in
+      subst P (sym gone) (λ k. passes x s h (next (questions.Get s.at) answers.Gone h) i.0 i.1.noted i.1.more k (or_nothing (first_cluster h)) refl (i.0.fresh i.1.more) refl refl) kept
   | inr found ↦
-    let P : HostAnswer → Type 0 = λ b. Kept x (next (questions.Get s.at) b h) → Is x (advanced phases.Getting x s b) (next (questions.Get s.at) b h) in
-    let plan : (c : PlannedChange) × (slice_get x.plan.changes s.at ≡ Some c) × IsAsPlanned x s.at c found.0 =
-        planned x s.at found.0 (slice_get x.plan.changes s.at) found.2 in
-    subst P (sym found.1)
-    (λ k. (
-      record {
-        kept = k;
-        cluster = or_nothing (first_cluster h) ∙ i.0.cluster;
-        left = i.0.left;
-        looks = i.0.looks;
-        order = i.0.order;
-        begun = i.0.begun;
-        sound = i.0.sound;
-        at = i.0.at;
-        fresh = i.0.fresh;
-      },
-      record {
-        noted = record { known = i.1.noted.known; stored = i.1.noted.stored; looking = i.1.noted.looking };
-        more = i.1.more;
-        change = plan.0;
-        planned = plan.1;
-        checked = (refl, (found.0, refl, plan.2), i.1.cluster);
-      },
-    ))
-    kept
+      let P : HostAnswer → Type 0 = λ b. Kept x (next (questions.Get s.at) b h) → Is x (advanced phases.Getting x s b) (next (questions.Get s.at) b h) in
+      let plan : (c : PlannedChange) × (slice_get x.plan.changes s.at ≡ Some c) × IsAsPlanned x s.at c found.0 =
+      planned x s.at found.0 (slice_get x.plan.changes s.at) found.2 in
+      subst P (sym found.1)
+      (λ k. (
+        record {
+          kept = k;
+          cluster = or_nothing (first_cluster h) ∙ i.0.cluster;
+          left = i.0.left;
+          looks = i.0.looks;
+          order = i.0.order;
+          begun = i.0.begun;
+          sound = i.0.sound;
+          at = i.0.at;
+          fresh = i.0.fresh;
+        },
+        record {
+          noted = record { known = i.1.noted.known; stored = i.1.noted.stored; looking = i.1.noted.looking };
+          more = i.1.more;
+          change = plan.0;
+          planned = plan.1;
+          checked = (refl, (found.0, refl, plan.2), i.1.cluster);
+        },
+      ))
+      kept
 ]
 
 sets : (x : Task) (s : SetterState) (h : List Exchange) (a : HostAnswer) → InPhase phases.Setting x s h →
@@ -387,32 +386,36 @@ sets : (x : Task) (s : SetterState) (h : List Exchange) (a : HostAnswer) → InP
 sets x s h a i none kept =
     elim (set_answer a none) [
       | inl done ↦
-        passes x s h (next (question_in phases.Setting x s) a h) i.0 i.1.noted i.1.more kept (or_nothing (first_cluster h)) refl refl
-        (ap (λ (b : HostAnswer). settled_more (question_in phases.Setting x s) b (settled h)) done) refl
+          passes x s h (next (question_in phases.Setting x s) a h) i.0 i.1.noted i.1.more kept (or_nothing (first_cluster h)) refl refl
+          (ap (λ (b : HostAnswer). settled_more (question_in phases.Setting x s) b (settled_places h)) done) refl
       | inr gone ↦
-        passes x s h (next (question_in phases.Setting x s) a h) i.0 i.1.noted i.1.more kept (or_nothing (first_cluster h)) refl refl
-        (ap (λ (b : HostAnswer). settled_more (question_in phases.Setting x s) b (settled h)) gone) refl
+          passes x s h (next (question_in phases.Setting x s) a h) i.0 i.1.noted i.1.more kept (or_nothing (first_cluster h)) refl refl
+          (ap (λ (b : HostAnswer). settled_more (question_in phases.Setting x s) b (settled_places h)) gone) refl
     ]
 
 -- a look
 look_on : (b : Bool) (x : Task) (s : SetterState) (h k : List Exchange) → Live x s h → ToLook s h → Kept x k →
     first_cluster k ≡ first_cluster h → waited k ≡ waited h → looks_in_place k ≡ looks_after b (looks_in_place h) →
-    settled k ≡ settled h → last_stored k ≡ last_stored h → Is x (looked b s) k
+    settled_places k ≡ settled_places h → last_stored k ≡ last_stored h → Is x (looked b s) k
 look_on true x s h k live to kept cluster waits looks places stored = elim (cases_lt 1 s.still) [
   | inl more ↦
-    rw (lt-leb s.still 1 more)
-    (on phases.Pausing, record {
-      noted = record { known = to.noted.known; stored = stored ∙ to.noted.stored; looking = omega arith };
-      all = to.all;
-    })
+      rw (lt-leb s.still 1 more) (
+        on phases.Pausing,
+        record {
+          noted = record { known = to.noted.known; stored = stored ∙ to.noted.stored; looking = omega arith };
+          all = to.all;
+        },
+      )
   | inr last ↦
-    rw (le-leb s.still 1 last)
-    (on phases.Closing, record {
-      known = to.noted.known;
-      stored = stored ∙ to.noted.stored;
-      all = to.all;
-      looks = omega (arith, looks, live.looks);
-    })
+      rw (le-leb s.still 1 last) (
+        on phases.Closing,
+        record {
+          known = to.noted.known;
+          stored = stored ∙ to.noted.stored;
+          all = to.all;
+          looks = omega (arith, looks, live.looks);
+        },
+      )
 ]
   where
     on : (p : SetterPhase) → Live x (record s { still = s.still - 1; phase = p }) k
@@ -472,29 +475,31 @@ closes : (x : Task) (s : SetterState) (h : List Exchange) (a : HostAnswer) → I
     Is x (advanced phases.Closing x s a) (next (questions.Store (closed_mark s.mark)) a h)
 closes x s h a i none kept = elim (eqb_tells s.mark.begun (length x.plan.changes)) [
   | inl all ↦
-    rw all.0
-    (told x (next (questions.Store (closed_mark s.mark)) a h) kept, (
-      ap (λ (n : ℕ). questions.Store (record { begun = n; certain = n })) all.1,
-      stored_answer a none,
-      record {
-        order = subst (λ (n : ℕ). Descends n x.first.certain (settled h)) (i.1.all ∙ all.1) i.0.order;
-        looks = i.1.looks;
-      },
-    ))
+      rw all.0 (
+        told x (next (questions.Store (closed_mark s.mark)) a h) kept,
+        (
+          ap (λ (n : ℕ). questions.Store (record { begun = n; certain = n })) all.1,
+          stored_answer a none,
+          record {
+            order = subst (λ (n : ℕ). Descends n x.first.certain (settled_places h)) (i.1.all ∙ all.1) i.0.order;
+            looks = i.1.looks;
+          },
+        ),
+      )
   | inr more ↦
-    rw more.0
-    (begins x (after_store x (closed_mark s.mark) s) (next (questions.Store (closed_mark s.mark)) a h)
+      rw more.0
+      (begins x (after_store x (closed_mark s.mark) s) (next (questions.Store (closed_mark s.mark)) a h)
       (stores x s h (closed_mark s.mark) a i.0 i.1.known refl (record { begun = i.0.sound.begun; certain = omega arith }) kept) i.1.known
       (ap
-        (λ (b : HostAnswer). standing_mark x.first (stored_mark (questions.Store (closed_mark s.mark)) b (last_stored h)))
-        (stored_answer a none))
+      (λ (b : HostAnswer). standing_mark x.first (stored_mark (questions.Store (closed_mark s.mark)) b (last_stored h)))
+      (stored_answer a none))
       refl)
 ]
 
 -- a setter after an answer that is no trouble
 goes_on : (p : SetterPhase) (x : Task) (s : SetterState) (h : List Exchange) (a : HostAnswer) → s.phase ≡ p → InPhase p x s h →
     trouble (unlike_plan x) s.cluster s.left (question_in p x s) a ≡ None →
-    Is x (advanced p x s a) (noted (has_ended p) (record { asked = question_in p x s; answer = a }) h)
+    Is x (advanced p x s a) (with_exchange (has_ended p) (record { asked = question_in p x s; answer = a }) h)
 goes_on phases.Resting x s h a e i none = rests x s h a i (kept_on phases.Resting x s h a refl i none)
 goes_on phases.Opening x s h a e i none = opens x s h a i none (kept_on phases.Opening x s h a refl i none)
 goes_on phases.Noting x s h a e i none = notes x s h a i none (kept_on phases.Noting x s h a refl i none)
@@ -516,7 +521,7 @@ stops_on p x s h a t e i some =
 
 stops : (p : SetterPhase) (x : Task) (s : SetterState) (h : List Exchange) (a : HostAnswer) (t : Trouble) → InPhase p x s h →
     trouble (unlike_plan x) s.cluster s.left (question_in p x s) a ≡ Some t →
-    Is x (record s { phase = phases.Ended (Stopped t) }) (noted (has_ended p) (record { asked = question_in p x s; answer = a }) h)
+    Is x (record s { phase = phases.Ended (Stopped t) }) (with_exchange (has_ended p) (record { asked = question_in p x s; answer = a }) h)
 stops phases.Resting x s h a t i some = stops_on phases.Resting x s h a t refl i some
 stops phases.Opening x s h a t i some = stops_on phases.Opening x s h a t refl i some
 stops phases.Noting x s h a t i some = stops_on phases.Noting x s h a t refl i some
@@ -530,7 +535,7 @@ stops (phases.Ended ending) x s h a t i some = absurd cc
 
 -- a setter after an answer
 one_step : (x : Task) (s : SetterState) (h : List Exchange) (a : HostAnswer) (v : Option Trouble) → setter_trouble x s a ≡ v → Is x s h →
-    Is x (after_verdict v x s a) (noted (has_ended s.phase) (record { asked = setter_question x s; answer = a }) h)
+    Is x (after_verdict v x s a) (with_exchange (has_ended s.phase) (record { asked = setter_question x s; answer = a }) h)
 one_step x s h a None e i = goes_on s.phase x s h a refl i e
 one_step x s h a (Some t) e i = stops s.phase x s h a t i e
 
@@ -538,7 +543,7 @@ runs : (x : Task) (s : SetterState) (h : List Exchange) (more : List HostAnswer)
     Is x (setter_run x s h more).0 (setter_run x s h more).1
 runs x s h [] i = i
 runs x s h (a ∷ more) i =
-    runs x (setter_after x s a) (noted (has_ended s.phase) (record { asked = setter_question x s; answer = a }) h) more
+    runs x (setter_after x s a) (with_exchange (has_ended s.phase) (record { asked = setter_question x s; answer = a }) h) more
     (one_step x s h a (setter_trouble x s a) refl i)
 
 -- an end stays
@@ -562,7 +567,7 @@ setter_stays x s a e =
 
 -- what was asked first
 first_one : (p : SetterPhase) (x : Task) (s : SetterState) (h : List Exchange) (a : HostAnswer) → s.phase ≡ p →
-    first_asked (setter_question x (setter_after x s a)) (noted (has_ended p) (record { asked = setter_question x s; answer = a }) h)
+    first_asked (setter_question x (setter_after x s a)) (with_exchange (has_ended p) (record { asked = setter_question x s; answer = a }) h)
     ≡ first_asked (setter_question x s) h
 first_one phases.Resting x s h a e = refl
 first_one phases.Opening x s h a e = refl
@@ -580,7 +585,7 @@ first_run : (x : Task) (s : SetterState) (h : List Exchange) (more : List HostAn
     first_asked (setter_question x (setter_run x s h more).0) (setter_run x s h more).1 ≡ first_asked (setter_question x s) h
 first_run x s h [] = refl
 first_run x s h (a ∷ more) =
-    first_run x (setter_after x s a) (noted (has_ended s.phase) (record { asked = setter_question x s; answer = a }) h) more
+    first_run x (setter_after x s a) (with_exchange (has_ended s.phase) (record { asked = setter_question x s; answer = a }) h) more
     ∙ first_one s.phase x s h a refl
 
 first_rests : (x : Task) → x.first.certain < x.first.begun → setter_question x (setter_start x) ≡ questions.Wait REST_SECONDS
@@ -641,7 +646,7 @@ pub drives : (x : Task) (more : List HostAnswer) → IsMark x.first (length x.pl
 drives x more mark =
     let end : SetterState × List Exchange = setter_run x (setter_start x) [] more in
     let all : Drives x end.1 (setter_question x end.0) =
-        drives_in end.0.phase x end.0 end.1 (runs x (setter_start x) [] more (starts x mark)) in
+    drives_in end.0.phase x end.0 end.1 (runs x (setter_start x) [] more (starts x mark)) in
     record {
       right = all.right;
       next = all.next;

@@ -1,5 +1,5 @@
 -- A text that is written is read again.
-use Rattle.std.proofs.Common.{◌≡◌, ◌∙◌, ◌≢◌, ℕ, suc, ◌<◌, ◌≤◌, ◌^◌, Bool, true, false, List, [], ◌∷◌, ◌++◌, All, codes, length, refl, sym, ap, arith, append_assoc, append-nil, Option, Some, None}
+use Rattle.std.proofs.Common.{◌≡◌, ◌∙◌, ℕ, ◌<◌, ◌^◌, List, [], ◌∷◌, ◌++◌, All, codes, length, refl, ap, arith, append_assoc, append-nil, Option, Some, None}
 use Rattle.std.specs.Prelude.{decimal, IfSome}
 use Rattle.std.specs.List.{flat_map}
 use Rattle.std.proofs.lemmas.List.Elements.{All-head, All-tail}
@@ -26,9 +26,9 @@ change_from : (text w i b a n p : List ℕ) (inode before after : Option ℕ) (i
     read_field (or_dash field_rank) b ≡ Some (after, a) → read_field field_number a ≡ Some (inodes, n) → read_field field_bytes n ≡ Some (path, p) →
     read_change text ≡ Some (record { path = path; inode = inode; before = before; after = after; inodes = inodes }, p)
 unfolding read_change
-change_from text w i b a n p inode before after inodes path hw hi hb ha hn hp = 
+change_from text w i b a n p inode before after inodes path hw hi hb ha hn hp =
     let made : List ℕ × List ℕ → Option (PlannedChange × List ℕ) =
-        λ (q : List ℕ × List ℕ). Some (record { path = q.0; inode = inode; before = before; after = after; inodes = inodes }, q.1) in
+    λ (q : List ℕ × List ℕ). Some (record { path = q.0; inode = inode; before = before; after = after; inodes = inodes }, q.1) in
     rw (hw, hi, hb, ha, hn) (then_reads (read_field field_bytes n) (path, p) made (made (path, p)) hp refl)
 
 small_number : (o : Option ℕ) → IfSome o (λ n. n < 2 ^ 64) → IfSome o (λ n. field_number (decimal n) ≡ Some n)
@@ -61,9 +61,9 @@ earlier_from : (text w i r p : List ℕ) (inode : Option ℕ) (rank : ℕ) (path
     read_field (or_dash field_number) w ≡ Some (inode, i) → read_field field_rank i ≡ Some (rank, r) → read_field field_bytes r ≡ Some (path, p) →
     read_earlier text ≡ Some (record { path = path; inode = inode; rank = rank }, p)
 unfolding read_earlier
-earlier_from text w i r p inode rank path hw hi hr hp = 
+earlier_from text w i r p inode rank path hw hi hr hp =
     let made : List ℕ × List ℕ → Option (EarlierPin × List ℕ) =
-        λ (q : List ℕ × List ℕ). Some (record { path = q.0; inode = inode; rank = rank }, q.1) in
+    λ (q : List ℕ × List ℕ). Some (record { path = q.0; inode = inode; rank = rank }, q.1) in
     rw (hw, hi, hr) (then_reads (read_field field_bytes r) (path, p) made (made (path, p)) hp refl)
 
 earlier_again : (pin : EarlierPin) (more : List ℕ) → FitsEarlier pin → read_earlier (earlier_text pin ++ more) ≡ Some (pin, more)
@@ -82,7 +82,7 @@ many_again : {A : Type 0} (fits : A → Type 0) (text_of : A → List ℕ) (one 
 many_again fits text_of one again [] more all = refl
 many_again {A} fits text_of one again (x ∷ xs) more all =
     let first : one ((text_of x ++ flat_map text_of xs) ++ more) ≡ Some (x, flat_map text_of xs ++ more) =
-        ap one (append_assoc (text_of x) (flat_map text_of xs) more) ∙ again x (flat_map text_of xs ++ more) (All-head fits x xs all) in
+    ap one (append_assoc (text_of x) (flat_map text_of xs) more) ∙ again x (flat_map text_of xs ++ more) (All-head fits x xs all) in
     then_reads (one ((text_of x ++ flat_map text_of xs) ++ more)) (x, flat_map text_of xs ++ more) _ (Some (x ∷ xs, more)) first
     (then_reads (read_many one (length xs) (flat_map text_of xs ++ more)) (xs, more) _ (Some (x ∷ xs, more))
     (many_again fits text_of one again xs more (All-tail fits x xs all)) refl)
@@ -107,7 +107,7 @@ changes_again : (changes : List PlannedChange) (more : List ℕ) → length chan
 changes_again changes more small all =
     changes_from _ _ more (length changes) changes
     (count_again (codes "changes") (length changes) (flat_map change_text changes ++ more)
-      (word_next (codes "changes") (last_text (decimal (length changes)) ++ (flat_map change_text changes ++ more)) refl) small)
+    (word_next (codes "changes") (last_text (decimal (length changes)) ++ (flat_map change_text changes ++ more)) refl) small)
     (many_again FitsChange change_text read_change change_again changes more all)
 
 pins_from : (text w more : List ℕ) (n : ℕ) (pins : List EarlierPin) → read_count (codes "pins") text ≡ Some (n, w) →
@@ -120,7 +120,7 @@ pins_again : (pins : List EarlierPin) (more : List ℕ) → length pins < 2 ^ 64
 pins_again pins more small all =
     pins_from _ _ more (length pins) pins
     (count_again (codes "pins") (length pins) (flat_map earlier_text pins ++ more)
-      (word_next (codes "pins") (last_text (decimal (length pins)) ++ (flat_map earlier_text pins ++ more)) refl) small)
+    (word_next (codes "pins") (last_text (decimal (length pins)) ++ (flat_map earlier_text pins ++ more)) refl) small)
     (many_again FitsEarlier earlier_text read_earlier earlier_again pins more all)
 
 mark_from : (text w b c : List ℕ) (begun certain : ℕ) → skip_word (codes "mark") text ≡ Some w → read_field field_number w ≡ Some (begun, b) →

@@ -1,5 +1,5 @@
 -- Which texts may be stored.
-use Rattle.std.proofs.Common.{◌≡◌, ◌⊎◌, ℕ, Option, Some, None, List, [], ◌∷◌, refl, inl, inr}
+use Rattle.std.proofs.Common.{◌≡◌, ◌⊎◌, ℕ, Option, None, List, [], ◌∷◌, inl}
 use Rattle.pin_driver.specs.Driven.{standing_mark}
 use Rattle.pin_driver.specs.Exchanges.{Exchange, trouble_after, IsCalm, last_stored, stored_mark, MayBeStored, MayStand}
 use Rattle.pin_driver.specs.declared.answer.FoundPin.{FoundPin}

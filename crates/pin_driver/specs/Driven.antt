@@ -1,6 +1,7 @@
 -- What holds of all that a setter asks, whatever is answered.
 use Rattle.std.specs.Prelude.{◌≡◌, ◌⊎◌, ℕ, ◌<◌, ◌≤◌, max, List, [], ◌∷◌, length, slice_get, Option, Some, None, IfSome}
-use Rattle.pin_driver.specs.Exchanges.{Exchange, trouble_after, last_stored, looks_in_place, Descends, IsListed, IsCalm, IsClusterLast, first_asked, MayBeStored, WasSet}
+use Rattle.pin_driver.specs.Exchanges.{Exchange, trouble_after, last_stored, looks_in_place, Descends, HasPlace}
+use Rattle.pin_driver.specs.Exchanges.{IsCalm, IsClusterLast, first_asked, MayBeStored, WasSet}
 use Rattle.pin_driver.specs.Notes.{setter_note, with_place}
 use Rattle.pin_driver.specs.Setting.{batch_end}
 use Rattle.pin_driver.specs.Troubles.{unlike_plan}
@@ -26,9 +27,9 @@ abbrev pub settled_more : Question → HostAnswer → List ℕ → List ℕ
 settled_more q a places = with_place (setter_note q a) places
 
 -- the changes that were set, or passed over as their directory is gone, the last one first
-abbrev pub settled : List Exchange → List ℕ
-settled [] = []
-settled (e ∷ h) = settled_more e.asked e.answer (settled h)
+abbrev pub settled_places : List Exchange → List ℕ
+settled_places [] = []
+settled_places (e ∷ h) = settled_more e.asked e.answer (settled_places h)
 
 -- the directory is the one of the change, and has the pin of before it; where a run that ended may have made the change
 -- already, it may have the pin of after it
@@ -36,11 +37,11 @@ pub record IsAsPlanned (x : Task) (i : ℕ) (change : PlannedChange) (found : Fo
   pub inode : IfSome change.inode (λ inode. found.inode ≡ inode)
   pub pin : (found.pin ≡ change.before) ⊎ ((i < x.first.begun) × (found.pin ≡ change.after))
 
--- the last exchange asked for the directory of this change, which was found as planned, and the one before for the state
--- of the cluster
-abbrev pub IsChecked : Task → ℕ → PlannedChange → List Exchange → Type 0
-IsChecked x i change [] = ⊥
-IsChecked x i change (e ∷ h) =
+-- the last exchange asked for the directory of this change, which was found as planned, and the one before for the
+-- state of the cluster
+abbrev pub IsLookedAt : Task → ℕ → PlannedChange → List Exchange → Type 0
+IsLookedAt x i change [] = ⊥
+IsLookedAt x i change (e ∷ h) =
     (e.asked ≡ questions.Get i) × ((found : FoundPin) × (e.answer ≡ answers.Found found) × IsAsPlanned x i change found)
     × IsClusterLast h
 
@@ -49,9 +50,9 @@ IsChecked x i change (e ∷ h) =
 pub record IsRightSet (x : Task) (i : ℕ) (pin : Option ℕ) (change : PlannedChange) (h : List Exchange) : Type 0 where
   pub planned : slice_get x.plan.changes i ≡ Some change
   pub pin_of_plan : pin ≡ change.after
-  pub order : Descends i x.first.certain (settled h)
+  pub order : Descends i x.first.certain (settled_places h)
   pub stored : (mark : Mark) × (last_stored h ≡ Some mark) × (i < mark.begun)
-  pub checked : IsChecked x i change h
+  pub checked : IsLookedAt x i change h
   pub calm : IsCalm (unlike_plan x) x h
 
 -- the mark that is stored, which at first is the one that the run begins with
@@ -61,7 +62,7 @@ standing_mark first (Some mark) = mark
 
 -- the changes below this place are settled, and after them looks found all in place
 pub record AreInPlace (x : Task) (place : ℕ) (h : List Exchange) : Type 0 where
-  pub order : Descends place x.first.certain (settled h)
+  pub order : Descends place x.first.certain (settled_places h)
   pub looks : LOOKS ≤ looks_in_place h
 
 -- a text that is to be stored after these exchanges: it names no fewer changes than the one that is stored, and beyond
@@ -110,7 +111,7 @@ pub record IsTextOf (x : Task) (h : List Exchange) (mark : Mark) : Type 0 where
   pub grown : x.first.begun ≤ mark.begun
   pub ours : (i : ℕ) → WasSet h i → i < mark.begun
   -- what it says is certain was so at the begin, or is settled
-  pub sure : (i : ℕ) → i < mark.certain → (i < x.first.certain) ⊎ IsListed i (settled h)
+  pub sure : (i : ℕ) → i < mark.certain → (i < x.first.certain) ⊎ HasPlace i (settled_places h)
 
 -- what holds of the exchanges of a run and of what is asked next
 pub record IsDriven (x : Task) (h : List Exchange) (asked : Question) : Type 0 where

@@ -93,9 +93,9 @@ Ascends from to [] = from ≡ to
 Ascends from to (place ∷ places) = (from ≡ place) × Ascends (suc place) to places
 
 -- the place is in the list
-abbrev pub IsListed : ℕ → List ℕ → Type 0
-IsListed i [] = ⊥
-IsListed i (place ∷ places) = (place ≡ i) ⊎ IsListed i places
+abbrev pub HasPlace : ℕ → List ℕ → Type 0
+HasPlace i [] = ⊥
+HasPlace i (place ∷ places) = (place ≡ i) ⊎ HasPlace i places
 
 -- a question sets the pin of the change at this place
 abbrev pub IsSetAt : Question → ℕ → Type 0

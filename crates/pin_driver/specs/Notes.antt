@@ -21,7 +21,8 @@ abbrev pub restorer_note : Task → Question → HostAnswer → Note
 restorer_note x (questions.Set i pin) answers.Done = notes.Set i
 restorer_note x (questions.Set i pin) answers.Gone = notes.Gone i
 restorer_note x (questions.Get i) answers.Gone = notes.Gone i
-restorer_note x (questions.Get i) (answers.Found found) = if restorable_at x i found then notes.Nothing else notes.LeftAlone i
+restorer_note x (questions.Get i) (answers.Found found) =
+    if restorable_at x i found then notes.Nothing else notes.LeftAlone i
 restorer_note x _ a = notes.Nothing
 
 -- with the place of the change that is settled in front

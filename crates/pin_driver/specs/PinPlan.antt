@@ -8,5 +8,5 @@ pub record PlanParts : Type 0 where
   pub changes : List PlannedChange
   pub earlier : List EarlierPin
 
-abbrev pub plan_parts : List ℕ → List PlannedChange → List EarlierPin → PlanParts
-plan_parts identity changes earlier = record { identity = identity; changes = changes; earlier = earlier }
+abbrev pub made_plan : List ℕ → List PlannedChange → List EarlierPin → PlanParts
+made_plan identity changes earlier = record { identity = identity; changes = changes; earlier = earlier }

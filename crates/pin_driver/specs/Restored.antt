@@ -1,7 +1,7 @@
 -- What holds of all that a restorer asks, whatever is answered.
-use Rattle.std.specs.Prelude.{◌≡◌, ◌⊎◌, ℕ, suc, ◌<◌, ◌≤◌, List, [], ◌∷◌, length, slice_get, Option, Some, None, IfSome}
-use Rattle.pin_driver.specs.Driven.{IsMark}
-use Rattle.pin_driver.specs.Exchanges.{Exchange, trouble_after, last_stored, Ascends, IsListed, IsCalm, IsClusterLast, first_asked, MayBeStored, WasSet}
+use Rattle.std.specs.Prelude.{◌≡◌, ◌⊎◌, ℕ, suc, ◌<◌, ◌≤◌, List, [], ◌∷◌, slice_get, Option, Some, IfSome}
+use Rattle.pin_driver.specs.Exchanges.{Exchange, trouble_after, last_stored, Ascends, HasPlace, IsCalm, IsClusterLast}
+use Rattle.pin_driver.specs.Exchanges.{first_asked, MayBeStored, WasSet}
 use Rattle.pin_driver.specs.Notes.{restorer_note, with_place}
 use Rattle.pin_driver.specs.Restoring.{any_directory, doubtful_mark, no_mark}
 use Rattle.pin_driver.specs.declared.answer.FoundPin.{FoundPin}
@@ -19,7 +19,7 @@ use Rattle.pin_driver.specs.declared.task.TheConstants.{REST_SECONDS}
 
 -- the directory is the one of the change, with the pin that the change gave it; where it is not certain that the change
 -- was made, it may show the pin of before
-pub record IsOurs (x : Task) (i : ℕ) (change : PlannedChange) (found : FoundPin) : Type 0 where
+pub record IsOurDirectory (x : Task) (i : ℕ) (change : PlannedChange) (found : FoundPin) : Type 0 where
   pub inode : IfSome change.inode (λ inode. found.inode ≡ inode)
   pub pin : (found.pin ≡ change.after) ⊎ ((x.first.certain ≤ i) × (found.pin ≡ change.before))
 
@@ -31,17 +31,18 @@ abbrev pub put_right : Task → List Exchange → List ℕ
 put_right x [] = []
 put_right x (e ∷ h) = put_right_more x e.asked e.answer (put_right x h)
 
--- the last exchange asked for the directory of this change, which has a pin of ours, and the one before for the state of
--- the cluster
+-- the last exchange asked for the directory of this change, which has a pin of ours, and the one before for the state
+-- of the cluster
 abbrev pub IsFoundOurs : Task → ℕ → PlannedChange → List Exchange → Type 0
 IsFoundOurs x i change [] = ⊥
 IsFoundOurs x i change (e ∷ h) =
-    (e.asked ≡ questions.Get i) × ((found : FoundPin) × (e.answer ≡ answers.Found found) × IsOurs x i change found)
+    (e.asked ≡ questions.Get i)
+    × ((found : FoundPin) × (e.answer ≡ answers.Found found) × IsOurDirectory x i change found)
     × IsClusterLast h
 
 -- a set that is asked after these exchanges: it gives a begun change's directory its pin of before, after all begun
--- changes behind it are put right; the text that is stored says that nothing is certain; its directory was looked at just
--- before and has a pin of ours; and there was no trouble
+-- changes behind it are put right; the text that is stored says that nothing is certain; its directory was looked at
+-- just before and has a pin of ours; and there was no trouble
 pub record IsRightReturn (x : Task) (i : ℕ) (pin : Option ℕ) (change : PlannedChange) (h : List Exchange) : Type 0 where
   pub planned : slice_get x.plan.changes i ≡ Some change
   pub pin_of_plan : pin ≡ change.before
@@ -55,8 +56,8 @@ pub record IsRightReturn (x : Task) (i : ℕ) (pin : Option ℕ) (change : Plann
 abbrev pub AreAllRight : Task → List Exchange → Type 0
 AreAllRight x h = Ascends 0 x.first.begun (put_right x h)
 
--- a text that is to be stored after these exchanges: all that was begun may be set; or, once all is put right, nothing is
--- begun
+-- a text that is to be stored after these exchanges: all that was begun may be set; or, once all is put right,
+-- nothing is begun
 pub record IsRightNote (x : Task) (mark : Mark) (h : List Exchange) : Type 0 where
   pub one : (mark ≡ doubtful_mark x.first) ⊎ ((mark ≡ no_mark) × AreAllRight x h)
   pub calm : IsCalm any_directory x h
@@ -87,12 +88,12 @@ abbrev pub AreRightBackQuestions : Task → List Exchange → Type 0
 AreRightBackQuestions x [] = Unit {0}
 AreRightBackQuestions x (e ∷ h) = IsRightBackQuestion x e.asked h × AreRightBackQuestions x h
 
--- a text that may be the one that is stored after these exchanges: it names each begun change that is not put right, and
--- says of no change that it is certain unless it is the text of the begin
+-- a text that may be the one that is stored after these exchanges: it names each begun change that is not put right,
+-- and says of no change that it is certain unless it is the text of the begin
 pub record IsBackText (x : Task) (h : List Exchange) (mark : Mark) : Type 0 where
   pub within : mark.begun ≤ x.first.begun
   pub doubtful : (mark ≡ x.first) ⊎ (mark.certain ≡ 0)
-  pub named : (i : ℕ) → i < x.first.begun → IsListed i (put_right x h) ⊎ (i < mark.begun)
+  pub named : (i : ℕ) → i < x.first.begun → HasPlace i (put_right x h) ⊎ (i < mark.begun)
   -- before a pin is restored, it says that nothing is certain
   pub before_sets : (i : ℕ) → WasSet h i → mark.certain ≡ 0
 

@@ -2,14 +2,12 @@
 use Rattle.std.specs.Prelude.{ℕ, ◌-◌, ◌==◌, Bool, true, false, not, ◌&&◌, ◌||◌, nat_le, List, [], ◌∷◌, slice_get}
 use Rattle.std.specs.Prelude.{Option, Some, None, if◌then◌else◌}
 use Rattle.pin_driver.specs.Exchanges.{Exchange, named_cluster}
-use Rattle.pin_driver.specs.Setting.{noted}
+use Rattle.pin_driver.specs.Setting.{with_exchange}
 use Rattle.pin_driver.specs.Troubles.{trouble, is_inode, is_same_pin}
-use Rattle.pin_driver.specs.declared.answer.ClusterState.{ClusterState}
 use Rattle.pin_driver.specs.declared.answer.FoundPin.{FoundPin}
 use Rattle.pin_driver.specs.declared.answer.HostAnswer.{HostAnswer}
 use Rattle.pin_driver.specs.declared.answer.HostAnswer.TheVariants as answers
 use Rattle.pin_driver.specs.declared.plan.PlannedChange.{PlannedChange}
-use Rattle.pin_driver.specs.declared.question.Ending.{Ending}
 use Rattle.pin_driver.specs.declared.question.Ending.TheVariants.{Done, Stopped}
 use Rattle.pin_driver.specs.declared.question.Mark.{Mark}
 use Rattle.pin_driver.specs.declared.question.Question.{Question}
@@ -33,9 +31,9 @@ doubtful_mark mark = record { begun = mark.begun; certain = 0 }
 abbrev pub no_mark : Mark
 no_mark = record { begun = 0; certain = 0 }
 
-abbrev pub pin_before : Option PlannedChange → Option ℕ
-pin_before None = None
-pin_before (Some change) = change.before
+abbrev pub former_pin : Option PlannedChange → Option ℕ
+former_pin None = None
+former_pin (Some change) = change.before
 
 -- the pin is the one that the change gives; where it is not certain that the change was made, it may also be the one of
 -- before, which a directory may still show for some seconds
@@ -56,7 +54,8 @@ restorer_question_in phases.Opening x s = questions.Cluster
 restorer_question_in phases.Noting x s = questions.Store (doubtful_mark x.first)
 restorer_question_in phases.Checking x s = questions.Cluster
 restorer_question_in phases.Getting x s = questions.Get (s.left - 1)
-restorer_question_in phases.Restoring x s = questions.Set (s.left - 1) (pin_before (slice_get x.plan.changes (s.left - 1)))
+restorer_question_in phases.Restoring x s =
+    questions.Set (s.left - 1) (former_pin (slice_get x.plan.changes (s.left - 1)))
 restorer_question_in phases.Closing x s = questions.Store no_mark
 restorer_question_in (phases.Ended ending) x s = questions.End ending
 
@@ -110,4 +109,4 @@ abbrev pub restorer_run : Task → RestorerState → List Exchange → List Host
 restorer_run x s h [] = (s, h)
 restorer_run x s h (a ∷ more) =
     restorer_run x (restorer_after x s a)
-    (noted (restorer_ended s.phase) (record { asked = restorer_question x s; answer = a }) h) more
+    (with_exchange (restorer_ended s.phase) (record { asked = restorer_question x s; answer = a }) h) more

@@ -1,8 +1,8 @@
 -- Runs of setters and restorers of one plan, each begun from a text that the one before it may have left, the last one
 -- first.
 use Rattle.std.specs.Prelude.{◌≡◌, ◌⊎◌, ℕ, ◌<◌, Bool, true, false, List, [], ◌∷◌, length}
-use Rattle.pin_driver.specs.Driven.{IsMark, settled}
-use Rattle.pin_driver.specs.Exchanges.{Exchange, IsListed, MayBeStored, WasSet}
+use Rattle.pin_driver.specs.Driven.{IsMark, settled_places}
+use Rattle.pin_driver.specs.Exchanges.{Exchange, HasPlace, MayBeStored, WasSet}
 use Rattle.pin_driver.specs.Restored.{put_right}
 use Rattle.pin_driver.specs.Restoring.{restorer_question, restorer_run, restorer_start}
 use Rattle.pin_driver.specs.Setting.{setter_question, setter_run, setter_start}
@@ -55,10 +55,10 @@ abbrev pub AreSessions : PinPlan → Mark → List Session → Type 0
 AreSessions plan start [] = Unit {0}
 AreSessions plan start (s ∷ older) = MayBeLeft plan start older s.first × AreSessions plan start older
 
--- the pin of the change at a place may be ours after these exchanges: a setter was asked to set it; or it was before, and
--- no way back restored it, or found that it is not ours
+-- the pin of the change at a place may be ours after these exchanges: a setter was asked to set it; or it was before,
+-- and no way back restored it, or found that it is not ours
 abbrev pub OursAfter : Bool → Task → List Exchange → ℕ → Type 0 → Type 0
-OursAfter true x h i before = before × (IsListed i (put_right x h) → ⊥)
+OursAfter true x h i before = before × (HasPlace i (put_right x h) → ⊥)
 OursAfter false x h i before = WasSet h i ⊎ before
 
 abbrev pub MayBeOurs : PinPlan → Mark → List Session → ℕ → Type 0
@@ -66,15 +66,16 @@ MayBeOurs plan start [] i = i < start.begun
 MayBeOurs plan start (s ∷ older) i =
     OursAfter s.way_back (session_task plan s) (session_exchanges plan s) i (MayBeOurs plan start older i)
 
--- the change at a place is settled after these exchanges: a setter did it; or it was before, and no way back was asked to
--- set any pin
+-- the change at a place is settled after these exchanges: a setter did it; or it was before, and no way back was
+-- asked to set any pin
 abbrev pub SettledAfter : Bool → List Exchange → ℕ → Type 0 → Type 0
 SettledAfter true h i before = before × ((j : ℕ) → WasSet h j → ⊥)
-SettledAfter false h i before = IsListed i (settled h) ⊎ before
+SettledAfter false h i before = HasPlace i (settled_places h) ⊎ before
 
-abbrev pub IsSettled : PinPlan → Mark → List Session → ℕ → Type 0
-IsSettled plan start [] i = i < start.certain
-IsSettled plan start (s ∷ older) i = SettledAfter s.way_back (session_exchanges plan s) i (IsSettled plan start older i)
+abbrev pub IsMadeSure : PinPlan → Mark → List Session → ℕ → Type 0
+IsMadeSure plan start [] i = i < start.certain
+IsMadeSure plan start (s ∷ older) i =
+    SettledAfter s.way_back (session_exchanges plan s) i (IsMadeSure plan start older i)
 
 -- whatever was answered in these runs, and wherever each was left
 pub record AreAccounted (plan : PinPlan) (start : Mark) (sessions : List Session) (mark : Mark) : Type 0 where
@@ -83,4 +84,4 @@ pub record AreAccounted (plan : PinPlan) (start : Mark) (sessions : List Session
   -- it names each pin that may be ours
   pub ours : (i : ℕ) → MayBeOurs plan start sessions i → i < mark.begun
   -- what it says is certain is settled
-  pub certain : (i : ℕ) → i < mark.certain → IsSettled plan start sessions i
+  pub certain : (i : ℕ) → i < mark.certain → IsMadeSure plan start sessions i

@@ -1,13 +1,12 @@
 -- How the pins of a plan are set, step by step.
-use Rattle.std.specs.Prelude.{ℕ, suc, ◌+◌, ◌-◌, ◌==◌, Bool, true, false, nat_lt, nat_le, min, max, List, [], ◌∷◌, drop, length, slice_get}
+use Rattle.std.specs.Prelude.{ℕ, suc, ◌+◌, ◌-◌, ◌==◌, Bool, true, false, nat_lt, nat_le, min, max, List, [], ◌∷◌}
+use Rattle.std.specs.Prelude.{drop, length, slice_get}
 use Rattle.std.specs.Prelude.{Option, Some, None, if◌then◌else◌}
 use Rattle.pin_driver.specs.Exchanges.{Exchange, is_in_place, named_cluster}
 use Rattle.pin_driver.specs.Troubles.{trouble, unlike_plan}
-use Rattle.pin_driver.specs.declared.answer.ClusterState.{ClusterState}
 use Rattle.pin_driver.specs.declared.answer.HostAnswer.{HostAnswer}
 use Rattle.pin_driver.specs.declared.answer.HostAnswer.TheVariants as answers
 use Rattle.pin_driver.specs.declared.plan.PlannedChange.{PlannedChange}
-use Rattle.pin_driver.specs.declared.question.Ending.{Ending}
 use Rattle.pin_driver.specs.declared.question.Ending.TheVariants.{Done, Stopped}
 use Rattle.pin_driver.specs.declared.question.Mark.{Mark}
 use Rattle.pin_driver.specs.declared.question.Question.{Question}
@@ -34,9 +33,9 @@ abbrev pub closed_mark : Mark → Mark
 closed_mark mark = record { begun = mark.begun; certain = mark.begun }
 
 -- the pin that the change at a place gives
-abbrev pub pin_after : Option PlannedChange → Option ℕ
-pin_after None = None
-pin_after (Some change) = change.after
+abbrev pub given_pin : Option PlannedChange → Option ℕ
+given_pin None = None
+given_pin (Some change) = change.after
 
 abbrev pub question_in : SetterPhase → Task → SetterState → Question
 question_in phases.Resting x s = questions.Wait REST_SECONDS
@@ -44,7 +43,7 @@ question_in phases.Opening x s = questions.Cluster
 question_in phases.Noting x s = questions.Store s.mark
 question_in phases.Checking x s = questions.Cluster
 question_in phases.Getting x s = questions.Get s.at
-question_in phases.Setting x s = questions.Set s.at (pin_after (slice_get x.plan.changes s.at))
+question_in phases.Setting x s = questions.Set s.at (given_pin (slice_get x.plan.changes s.at))
 question_in phases.Looking x s = questions.Roots
 question_in phases.Pausing x s = questions.Wait x.pace.poll_seconds
 question_in phases.Closing x s = questions.Store (closed_mark s.mark)
@@ -95,7 +94,8 @@ abbrev pub advanced : SetterPhase → Task → SetterState → HostAnswer → Se
 advanced phases.Resting x s a = record s { left = s.left - REST_SECONDS; phase = phases.Opening }
 advanced phases.Opening x s a = begin_batch x (record s { cluster = named_cluster a })
 advanced phases.Noting x s a = after_store x s.mark s
-advanced phases.Checking x s a = record s { phase = if nat_lt s.at s.mark.begun then phases.Getting else phases.Looking }
+advanced phases.Checking x s a =
+    record s { phase = if nat_lt s.at s.mark.begun then phases.Getting else phases.Looking }
 advanced phases.Getting x s a = if is_gone a then passed s else record s { phase = phases.Setting }
 advanced phases.Setting x s a = passed s
 advanced phases.Looking x s a = looked (is_in_place a) s
@@ -128,13 +128,13 @@ has_ended (phases.Ended ending) = true
 has_ended _ = false
 
 -- what was asked and answered up to the end
-abbrev pub noted : Bool → Exchange → List Exchange → List Exchange
-noted true e h = h
-noted false e h = e ∷ h
+abbrev pub with_exchange : Bool → Exchange → List Exchange → List Exchange
+with_exchange true e h = h
+with_exchange false e h = e ∷ h
 
 -- a setter and its exchanges, after more answers
 abbrev pub setter_run : Task → SetterState → List Exchange → List HostAnswer → SetterState × List Exchange
 setter_run x s h [] = (s, h)
 setter_run x s h (a ∷ more) =
     setter_run x (setter_after x s a)
-    (noted (has_ended s.phase) (record { asked = setter_question x s; answer = a }) h) more
+    (with_exchange (has_ended s.phase) (record { asked = setter_question x s; answer = a }) h) more

@@ -1,12 +1,14 @@
--- How a stored text is read: fields one by one from the front. The reader compares the text with the one that is written
--- of what was read, so `stored_text` says what it takes.
-use Rattle.std.specs.Prelude.{◌≡◌, ◌≢◌, ⊤, ℕ, zero, suc, ◌+◌, ◌-◌, ◌*◌, ◌^◌, ◌==◌, Bool, ◌&&◌, ◌||◌, nat_lt, nat_le, List, [], ◌∷◌, ◌++◌}
-use Rattle.std.specs.Prelude.{length, codes, slice_index, Option, Some, None, Result, Ok, Err, is_some, option_map, option_and_then, if◌then◌else◌}
+-- How a stored text is read: fields one by one from the front. The reader compares the text with the one that is
+-- written of what was read, so `stored_text` says what it takes.
+use Rattle.std.specs.Prelude.{◌≡◌, ◌≢◌, ⊤, ℕ, zero, suc, ◌+◌, ◌-◌, ◌*◌, ◌^◌, ◌==◌, Bool, ◌&&◌, ◌||◌, nat_lt, nat_le}
+use Rattle.std.specs.Prelude.{List, [], ◌∷◌, ◌++◌}
+use Rattle.std.specs.Prelude.{length, codes, slice_index, Option, Some, None, Result, Ok, Err, is_some, option_map}
+use Rattle.std.specs.Prelude.{option_and_then, if◌then◌else◌}
 use Rattle.std.specs.Borrow.{Bor}
 use Rattle.std.specs.List.{after_first, before_first}
 use Rattle.std.specs.Option.{unwrap_or}
 use Rattle.std.specs.Str.{bytes_eq}
-use Rattle.pin_driver.specs.PinPlan.{PlanParts, plan_parts}
+use Rattle.pin_driver.specs.PinPlan.{PlanParts, made_plan}
 use Rattle.pin_driver.specs.declared.plan.EarlierPin.{EarlierPin}
 use Rattle.pin_driver.specs.declared.plan.PlannedChange.{PlannedChange}
 use Rattle.pin_driver.specs.declared.question.Mark.{Mark}
@@ -18,18 +20,19 @@ abbrev ◌>>=◌ : {A B : Type 0} → Option A → (A → Option B) → Option B
 o >>= f = option_and_then f o
 
 -- a blank or a newline
-abbrev pub is_end : ℕ → Bool
-is_end c = (c == 32) || (c == 10)
+abbrev pub closes_field : ℕ → Bool
+closes_field c = (c == 32) || (c == 10)
 
 -- what the first field is, and the text after it
 abbrev pub read_field : {A : Type 0} → (List ℕ → Option A) → List ℕ → Option (A × List ℕ)
 read_field value text = do
-  x ← value (before_first is_end text)
-  Some (x, after_first is_end text)
+  x ← value (before_first closes_field text)
+  Some (x, after_first closes_field text)
 
 -- the text after a word
 abbrev pub skip_word : List ℕ → List ℕ → Option (List ℕ)
-skip_word word text = if bytes_eq (before_first is_end text) word then Some (after_first is_end text) else None
+skip_word word text =
+    if bytes_eq (before_first closes_field text) word then Some (after_first closes_field text) else None
 
 -- a number with one more digit
 abbrev pub next_digit : ℕ → ℕ → Option ℕ
@@ -148,7 +151,7 @@ read_body text = do
   changes ← read_changes mark.1
   pins ← read_pins changes.1
   rest ← skip_word (codes "end") pins.1
-  Some ((plan_parts identity.0 changes.0 pins.0, mark.0), rest)
+  Some ((made_plan identity.0 changes.0 pins.0, mark.0), rest)
 
 -- what a function found in front of a text, with its value seen through view
 abbrev pub found_view : {A B : Type 0} → (A → B) → Option (A × Bor (List ℕ)) → Option (B × List ℕ)

@@ -1,5 +1,6 @@
 -- The text that is stored of a plan: lines of fields in printable ASCII.
-use Rattle.std.specs.Prelude.{ℕ, ◌+◌, ◌/◌, ◌%◌, ◌==◌, ◌<◌, ◌^◌, Bool, not, ◌&&◌, nat_lt, List, [], ◌∷◌, ◌++◌, length, codes, decimal, All}
+use Rattle.std.specs.Prelude.{ℕ, ◌+◌, ◌/◌, ◌%◌, ◌==◌, ◌<◌, ◌^◌, Bool, not, ◌&&◌, nat_lt, List, [], ◌∷◌, ◌++◌, length}
+use Rattle.std.specs.Prelude.{codes, decimal, All}
 use Rattle.std.specs.Prelude.{Option, Some, None, IfSome, if◌then◌else◌}
 use Rattle.std.specs.List.{flat_map}
 use Rattle.pin_driver.specs.PinPlan.{PlanParts}
@@ -33,8 +34,9 @@ number_or_dash (Some n) = decimal n
 
 abbrev pub change_text : PlannedChange → List ℕ
 change_text change =
-    field_text (codes "change") ++ field_text (number_or_dash change.inode) ++ field_text (number_or_dash change.before)
-    ++ field_text (number_or_dash change.after) ++ field_text (decimal change.inodes) ++ last_text (kept_bytes change.path)
+    field_text (codes "change") ++ field_text (number_or_dash change.inode)
+    ++ field_text (number_or_dash change.before) ++ field_text (number_or_dash change.after)
+    ++ field_text (decimal change.inodes) ++ last_text (kept_bytes change.path)
 
 abbrev pub earlier_text : EarlierPin → List ℕ
 earlier_text pin =

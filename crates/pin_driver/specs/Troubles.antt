@@ -8,7 +8,6 @@ use Rattle.pin_driver.specs.declared.answer.FoundPin.{FoundPin}
 use Rattle.pin_driver.specs.declared.answer.HostAnswer.{HostAnswer}
 use Rattle.pin_driver.specs.declared.answer.HostAnswer.TheVariants as answers
 use Rattle.pin_driver.specs.declared.plan.PlannedChange.{PlannedChange}
-use Rattle.pin_driver.specs.declared.question.Mark.{Mark}
 use Rattle.pin_driver.specs.declared.question.Question.{Question}
 use Rattle.pin_driver.specs.declared.question.Question.TheVariants as questions
 use Rattle.pin_driver.specs.declared.question.Trouble.{Trouble}

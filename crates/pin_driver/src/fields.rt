@@ -1,7 +1,8 @@
 //! The fields of a stored text, one after another, and what they say.
 ghost use Rattle.std.specs.Prelude.{◌≡◌, ◌≤◌, ◌++◌, IfOk, IfSome, OnOk, Some, length, option_map};
 ghost use Rattle.std.specs.List.{after_first, before_first, position_or_len};
-ghost use Rattle.pin_driver.specs.StoredReading.{escape_value, field_bytes, field_number, field_rank, found_view, is_end};
+ghost use Rattle.pin_driver.specs.StoredReading.{escape_value, field_bytes, field_number, field_rank, found_view};
+ghost use Rattle.pin_driver.specs.StoredReading.{closes_field};
 ghost use Rattle.pin_driver.specs.StoredReading.{FindsAs, meant_bytes, next_digit, or_dash, read_field, skip_word};
 
 use crate::bytes::Bytes;
@@ -10,19 +11,19 @@ use mds_types::Rank;
 use std::alloc::{AllocError, Global};
 
 /// Whether a byte ends a field.
-fn is_end(byte: u8) -> bool
-    ensures { result ≡ is_end byte }
+fn closes_field(byte: u8) -> bool
+    ensures { result ≡ closes_field byte }
 {
     byte == b' ' || byte == b'\n'
 }
 
 /// How many bytes the first field has.
 fn field_length(text: &[u8]) -> usize
-    ensures value { result ≡ position_or_len is_end text.now }
+    ensures value { result ≡ position_or_len closes_field text.now }
     ensures within { result ≤ length text.now }
 {
     for (i, byte) in text.iter().enumerate() {
-        if is_end(*byte) {
+        if closes_field(*byte) {
             return i;
         }
     }
@@ -31,8 +32,8 @@ fn field_length(text: &[u8]) -> usize
 
 /// The first field, and what comes after the byte that ends it.
 fn field(text: &[u8]) -> (&[u8], &[u8])
-    ensures first { result.0.now ≡ before_first is_end text.now }
-    ensures rest { result.1.now ≡ after_first is_end text.now }
+    ensures first { result.0.now ≡ before_first closes_field text.now }
+    ensures rest { result.1.now ≡ after_first closes_field text.now }
 {
     let length = field_length(text);
     if length < text.len() {
@@ -76,7 +77,11 @@ fn rank_of(field: &[u8]) -> Option<Rank>
     ensures { result ≡ field_rank field.now }
 {
     let number = number_of(field)?;
-    if number < 64 { Rank::new(number as u8) } else { None }
+    if number < 64 {
+        Rank::new(number as u8)
+    } else {
+        None
+    }
 }
 
 /// The number that the first field writes.

@@ -42,11 +42,11 @@ pub struct PinPlan {
 }
 
 impl Model for PinPlan {
-    ghost use Rattle.pin_driver.specs.PinPlan.{PlanParts, plan_parts};
+    ghost use Rattle.pin_driver.specs.PinPlan.{PlanParts, made_plan};
 
     ghost Value = { PlanParts };
 
-    ghost view = { λ plan. plan_parts plan.identity plan.changes.items plan.earlier.items };
+    ghost view = { λ plan. made_plan plan.identity plan.changes.items plan.earlier.items };
 }
 
 impl PinPlan {

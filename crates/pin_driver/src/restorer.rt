@@ -10,7 +10,8 @@ use crate::restorer_state::RestorerState;
 use crate::task::Task;
 use std::marker::Model;
 
-/// Restores the pins that directories had before a plan, from where the plan is. Its host asks for the question, and gives the answer.
+/// Restores the pins that directories had before a plan, from where the plan is. Its host asks for the question, and
+/// gives the answer.
 #[derive(Drop)]
 pub struct PinRestorer {
     task: Task,

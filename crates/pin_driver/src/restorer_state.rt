@@ -8,7 +8,7 @@
 //! ```
 
 ghost use Rattle.std.specs.Prelude.{◌≡◌, ◌-◌, ◌==◌, slice_get, nat_le, not, if◌then◌else◌};
-ghost use Rattle.pin_driver.specs.Restoring.{is_given, is_restorable, is_to_restore, pin_before, restorable_at};
+ghost use Rattle.pin_driver.specs.Restoring.{is_given, is_restorable, is_to_restore, former_pin, restorable_at};
 ghost use Rattle.pin_driver.specs.Restoring.{restored_one, restorer_advanced, restorer_after, restorer_question};
 ghost use Rattle.pin_driver.specs.Restoring.{restorer_start, restorer_trouble, any_directory};
 ghost use Rattle.pin_driver.specs.Notes.{restorer_note};
@@ -19,7 +19,9 @@ use crate::note::{Note, setter_note};
 use crate::plan::PlannedChange;
 use crate::question::{Ending, Mark, Question, Trouble};
 use crate::task::{REST_SECONDS, Task};
-use crate::trouble::{is_inode, is_same_pin, misfit, set_trouble, state_trouble, store_trouble, wait_trouble};
+use crate::trouble::{
+    is_inode, is_same_pin, misfit, set_trouble, state_trouble, store_trouble, wait_trouble,
+};
 use mds_types::Rank;
 
 /// What a restorer asks next.
@@ -97,7 +99,7 @@ impl RestorerState {
 
     fn set_question(&self, task: &Task) -> Question
         ensures { result
-            ≡ Question.Set (self.now.left - 1) (pin_before (slice_get task.now.plan.changes (self.now.left - 1))) }
+            ≡ Question.Set (self.now.left - 1) (former_pin (slice_get task.now.plan.changes (self.now.left - 1))) }
     {
         let at = self.next_place();
         let pin = match task.plan.changes().get(at) {

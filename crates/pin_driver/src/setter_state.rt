@@ -9,17 +9,19 @@
 //!                         +-------- closing -> ended             until all batches are
 //! ```
 
-
 ghost use Rattle.std.specs.Prelude.{◌≡◌, ◌-◌, length, nat_lt, slice_get, if◌then◌else◌};
 ghost use Rattle.pin_driver.specs.Driven.{IsMark};
 ghost use Rattle.pin_driver.specs.Exchanges.{named_cluster};
-ghost use Rattle.pin_driver.specs.Setting.{advanced, batch_end, begin_batch, closed, closed_mark, looked, passed, pin_after};
+ghost use Rattle.pin_driver.specs.Setting.{advanced, batch_end, begin_batch, closed, closed_mark, looked, passed};
+ghost use Rattle.pin_driver.specs.Setting.{given_pin};
 ghost use Rattle.pin_driver.specs.Setting.{after_store, setter_after, setter_question, setter_start, setter_trouble};
 
 use crate::answer::{ClusterState, HostAnswer, is_gone, is_in_place, named_cluster};
 use crate::question::{Ending, Mark, Question, Trouble};
 use crate::task::{LOOKS, REST_SECONDS, Task};
-use crate::trouble::{get_trouble, roots_trouble, set_trouble, state_trouble, store_trouble, wait_trouble};
+use crate::trouble::{
+    get_trouble, roots_trouble, set_trouble, state_trouble, store_trouble, wait_trouble,
+};
 
 /// What a setter asks next.
 #[derive(Clone, Copy, Debug)]
@@ -101,7 +103,7 @@ impl SetterState {
     }
 
     fn set_question(&self, task: &Task) -> Question
-        ensures { result ≡ Question.Set self.now.at (pin_after (slice_get task.now.plan.changes self.now.at)) }
+        ensures { result ≡ Question.Set self.now.at (given_pin (slice_get task.now.plan.changes self.now.at)) }
     {
         let pin = match task.plan.changes().get(self.at) {
             Some(change) => change.after,
@@ -250,9 +252,7 @@ impl SetterState {
           phase = SetterPhase.Checking;
         } }
     {
-        self.left = self
-            .left
-            .saturating_sub(task.pace.poll_seconds);
+        self.left = self.left.saturating_sub(task.pace.poll_seconds);
         self.phase = SetterPhase::Checking;
     }
 

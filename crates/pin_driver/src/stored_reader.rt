@@ -1,10 +1,12 @@
 //! Reading the text that is stored of a plan.
-ghost use Rattle.std.specs.Prelude.{◌≡◌, ◌≢◌, ◌<◌, ◌^◌, ◌++◌, ℕ, List, Err, IfErr, IfOk, MatchResult, OnOk, codes, length, true};
+ghost use Rattle.std.specs.Prelude.{◌≡◌, ◌≢◌, ◌<◌, ◌^◌, ◌++◌, ℕ, List, Err, IfErr, IfOk, MatchResult, OnOk, codes};
+ghost use Rattle.std.specs.Prelude.{length, true};
 ghost use Rattle.pin_driver.specs.Driven.{IsMark};
 ghost use Rattle.pin_driver.specs.PinPlan.{PlanParts};
 ghost use Rattle.pin_driver.specs.StoredReading.{HasVersion, IsOutOfMemory};
 ghost use Rattle.pin_driver.specs.StoredReading.{FindsAs, found_view, read_body, read_change, read_changes};
-ghost use Rattle.pin_driver.specs.StoredReading.{read_count, read_earlier, read_identity, read_many, read_mark, read_pins};
+ghost use Rattle.pin_driver.specs.StoredReading.{read_count, read_earlier, read_identity, read_many, read_mark};
+ghost use Rattle.pin_driver.specs.StoredReading.{read_pins};
 ghost use Rattle.pin_driver.specs.StoredText.{FitsText, stored_text as text_of, version_text};
 ghost use Rattle.pin_driver.specs.declared.question.Mark.{Mark as MarkOf};
 ghost use Rattle.pin_driver.specs.declared.text_error.TextError.TheVariants as errors;
@@ -90,7 +92,11 @@ fn count<'a>(text: &'a [u8], name: &[u8]) -> Result<(u64, &'a [u8]), TextError>
 }
 
 /// This many changes.
-fn many_changes(alloc: Global, text: &[u8], count: u64) -> Result<(Vec<PlannedChange>, &[u8]), TextError>
+fn many_changes(
+    alloc: Global,
+    text: &[u8],
+    count: u64,
+) -> Result<(Vec<PlannedChange>, &[u8]), TextError>
     ensures { FindsAs (λ changes. changes.items) result (read_many read_change count text.now) }
 {
     let mut changes = Vec::new(alloc);

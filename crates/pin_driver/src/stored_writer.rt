@@ -135,7 +135,11 @@ fn push_mark(alloc: Global, text: &mut Vec<u8>, mark: Mark) -> Result<(), AllocE
     push_last_number(alloc, text, mark.certain as u64)
 }
 
-fn push_changes(alloc: Global, text: &mut Vec<u8>, changes: &[PlannedChange]) -> Result<(), AllocError>
+fn push_changes(
+    alloc: Global,
+    text: &mut Vec<u8>,
+    changes: &[PlannedChange],
+) -> Result<(), AllocError>
     ensures { OnOk result (text.new.items ≡ text.old.items ++ flat_map change_text changes.now) }
 {
     for change in changes {

@@ -115,10 +115,7 @@ pub(crate) fn wait_trouble(answer: &HostAnswer) -> Option<Trouble>
     }
 }
 
-pub(crate) fn state_trouble(
-    first: &Option<ClusterState>,
-    answer: &HostAnswer,
-) -> Option<Trouble>
+pub(crate) fn state_trouble(first: &Option<ClusterState>, answer: &HostAnswer) -> Option<Trouble>
     ensures { result ≡ state_trouble first.now answer.now }
 {
     match answer {
