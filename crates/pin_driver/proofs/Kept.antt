@@ -1,5 +1,5 @@
 -- What each exchange keeps.
-use Rattle.std.proofs.Common.{◌≡◌, ◌⊎◌, ℕ, ◌<◌, Option, Some, None, List, ◌∷◌, refl, sym, subst, inl, inr, arith}
+use Rattle.std.proofs.Common.{[], ◌≡◌, ◌⊎◌, ℕ, ◌<◌, Option, Some, None, List, ◌∷◌, refl, sym, subst, inl, inr, arith}
 use Rattle.std.proofs.lemmas.Bool.{cases_lt}
 use Rattle.pin_driver.specs.Driven.{IsRightQuestion, AreRightQuestions, IsRightStore, IsRightSet, IsTextOf, standing_mark, settled_places, settled_more}
 use Rattle.pin_driver.specs.Exchanges.{Exchange, trouble_after, IsCalm, last_stored, stored_mark, IsSetAt, MayBeStored, MayStand, HasPlace}
@@ -11,7 +11,10 @@ use Rattle.pin_driver.specs.declared.question.Mark.{Mark}
 use Rattle.pin_driver.specs.declared.question.Question.{Question}
 use Rattle.pin_driver.specs.declared.question.Question.TheVariants as questions
 use Rattle.pin_driver.specs.declared.task.Task.{Task}
-use Rattle.pin_driver.proofs.Answers.{stored_answer}
+use Rattle.pin_driver.specs.Exchanges.{WasSet}
+use Rattle.pin_driver.specs.declared.question.Trouble.{Trouble}
+use Rattle.pin_driver.specs.declared.answer.FoundPin.{FoundPin}
+use Rattle.pin_driver.proofs.Answers.{set_answer, stored_answer}
 use Rattle.pin_driver.proofs.Places.{descends_lists}
 use Rattle.pin_driver.proofs.Texts.{one_text, may_stand}
 
@@ -60,6 +63,27 @@ listed_more questions.Cluster a places i l = l
 listed_more (questions.Store mark) a places i l = l
 listed_more questions.Roots a places i l = l
 listed_more (questions.End ending) a places i l = l
+
+settles : (q : Question) (a : HostAnswer) (judge : ℕ → FoundPin → Option Trouble) (x : Task) (h : List Exchange) (places : List ℕ) (j : ℕ) → IsSetAt q j →
+    trouble_after judge x h (record { asked = q; answer = a }) ≡ None → HasPlace j (settled_more q a places)
+settles (questions.Set i pin) a judge x h places j e none = elim (set_answer a none) [
+  | inl done ↦ subst (λ (b : HostAnswer). HasPlace j (settled_more (questions.Set i pin) b places)) (sym done) (inl e)
+  | inr gone ↦ subst (λ (b : HostAnswer). HasPlace j (settled_more (questions.Set i pin) b places)) (sym gone) (inl e)
+]
+settles (questions.Wait n) a judge x h places j e none = absurd e
+settles questions.Cluster a judge x h places j e none = absurd e
+settles (questions.Store mark) a judge x h places j e none = absurd e
+settles (questions.Get k) a judge x h places j e none = absurd e
+settles questions.Roots a judge x h places j e none = absurd e
+settles (questions.End ending) a judge x h places j e none = absurd e
+
+-- without a trouble each change that was set is settled
+pub set_settled : (x : Task) (h : List Exchange) → IsCalm (unlike_plan x) x h → (j : ℕ) → WasSet h j → HasPlace j (settled_places h)
+set_settled x [] calm j w = absurd w
+set_settled x (e ∷ h) calm j w = elim w [
+  | inl is ↦ settles e.asked e.answer (unlike_plan x) x h (settled_places h) j is calm.0
+  | inr was ↦ listed_more e.asked e.answer (settled_places h) j (set_settled x h calm.1 j was)
+]
 
 sure_more : (x : Task) (q : Question) (a : HostAnswer) (h : List Exchange) (i : ℕ) → (i < x.first.certain) ⊎ HasPlace i (settled_places h) →
     (i < x.first.certain) ⊎ HasPlace i (settled_places (record { asked = q; answer = a } ∷ h))

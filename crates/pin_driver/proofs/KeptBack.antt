@@ -1,5 +1,5 @@
 -- What each exchange of a way back keeps.
-use Rattle.std.proofs.Common.{◌≡◌, ℕ, Bool, true, false, cond, Option, None, List, ◌∷◌, refl, sym, subst, inl, inr, arith}
+use Rattle.std.proofs.Common.{[], ◌≡◌, ℕ, Bool, true, false, cond, Option, None, List, ◌∷◌, refl, sym, subst, inl, inr, arith}
 use Rattle.pin_driver.specs.Driven.{standing_mark}
 use Rattle.pin_driver.specs.Exchanges.{Exchange, trouble_after, IsCalm, last_stored, stored_mark, IsSetAt, MayBeStored, MayStand, HasPlace}
 use Rattle.pin_driver.specs.Notes.{with_place}
@@ -13,7 +13,8 @@ use Rattle.pin_driver.specs.declared.question.Mark.{Mark}
 use Rattle.pin_driver.specs.declared.question.Question.{Question}
 use Rattle.pin_driver.specs.declared.question.Question.TheVariants as questions
 use Rattle.pin_driver.specs.declared.task.Task.{Task}
-use Rattle.pin_driver.proofs.Answers.{stored_answer}
+use Rattle.pin_driver.specs.Exchanges.{WasSet}
+use Rattle.pin_driver.proofs.Answers.{set_answer, stored_answer}
 use Rattle.pin_driver.proofs.Places.{ascends_lists}
 use Rattle.pin_driver.proofs.Texts.{one_text, may_stand}
 
@@ -59,6 +60,27 @@ listed_more x questions.Cluster a places i l = l
 listed_more x (questions.Store mark) a places i l = l
 listed_more x questions.Roots a places i l = l
 listed_more x (questions.End ending) a places i l = l
+
+puts_right : (x : Task) (q : Question) (a : HostAnswer) (h : List Exchange) (places : List ℕ) (j : ℕ) → IsSetAt q j →
+    trouble_after any_directory x h (record { asked = q; answer = a }) ≡ None → HasPlace j (put_right_more x q a places)
+puts_right x (questions.Set i pin) a h places j e none = elim (set_answer a none) [
+  | inl done ↦ subst (λ (b : HostAnswer). HasPlace j (put_right_more x (questions.Set i pin) b places)) (sym done) (inl e)
+  | inr gone ↦ subst (λ (b : HostAnswer). HasPlace j (put_right_more x (questions.Set i pin) b places)) (sym gone) (inl e)
+]
+puts_right x (questions.Wait n) a h places j e none = absurd e
+puts_right x questions.Cluster a h places j e none = absurd e
+puts_right x (questions.Store mark) a h places j e none = absurd e
+puts_right x (questions.Get k) a h places j e none = absurd e
+puts_right x questions.Roots a h places j e none = absurd e
+puts_right x (questions.End ending) a h places j e none = absurd e
+
+-- without a trouble each change whose pin was set is put right
+pub set_right : (x : Task) (h : List Exchange) → IsCalm any_directory x h → (j : ℕ) → WasSet h j → HasPlace j (put_right x h)
+set_right x [] calm j w = absurd w
+set_right x (e ∷ h) calm j w = elim w [
+  | inl is ↦ puts_right x e.asked e.answer h (put_right x h) j is calm.0
+  | inr was ↦ listed_more x e.asked e.answer (put_right x h) j (set_right x h calm.1 j was)
+]
 
 -- after a question that is no store the same text stands
 same_text : (x : Task) (q : Question) (a : HostAnswer) (h : List Exchange) (mark : Mark) →

@@ -21,3 +21,17 @@ descends_lists from to (place ∷ places) down i high low = elim (cases_lt i pla
 pub descends_above : (from to : ℕ) (places : List ℕ) → Descends from to places → to ≤ from
 descends_above from to [] down = omega (arith, down)
 descends_above from to (place ∷ places) down = omega (arith, down.0, descends_above place to places down.1)
+
+pub descends_below : (from to : ℕ) (places : List ℕ) → Descends from to places → (i : ℕ) → HasPlace i places → i < from
+descends_below from to [] down i has = absurd has
+descends_below from to (place ∷ places) down i has = elim has [
+  | inl here ↦ omega (arith, down.0, here)
+  | inr more ↦ let less : i < place = descends_below place to places down.1 i more in omega (arith, down.0, less)
+]
+
+pub ascends_above : (from to : ℕ) (places : List ℕ) → Ascends from to places → (i : ℕ) → HasPlace i places → from ≤ i
+ascends_above from to [] up i has = absurd has
+ascends_above from to (place ∷ places) up i has = elim has [
+  | inl here ↦ omega (arith, up.0, here)
+  | inr more ↦ let less : suc place ≤ i = ascends_above (suc place) to places up.1 i more in omega (arith, up.0, less)
+]

@@ -27,7 +27,8 @@ use Rattle.pin_driver.specs.declared.restorer_state.RestorerState.{RestorerState
 use Rattle.pin_driver.specs.declared.task.Task.{Task}
 use Rattle.pin_driver.specs.declared.task.TheConstants.{REST_SECONDS}
 use Rattle.pin_driver.proofs.Answers.{stored_answer, set_answer, cluster_answer, get_answer}
-use Rattle.pin_driver.proofs.KeptBack.{KeptBack, ToldBack, keeps_back, tells_back, told_back}
+use Rattle.pin_driver.proofs.Places.{ascends_above}
+use Rattle.pin_driver.proofs.KeptBack.{set_right, KeptBack, ToldBack, keeps_back, tells_back, told_back}
 use Rattle.pin_driver.proofs.Setting.{same_inode, same_pin, both, either, or_nothing, stays}
 
 -- a restorer that has not ended is where its exchanges leave it
@@ -69,11 +70,13 @@ one_more left to places more up = let same : left ≡ suc (left - 1) = omega (ar
 asks_set : (x : Task) (s : RestorerState) (h : List Exchange) → LiveBack x s h → (to : ToRestore x s h) →
     IsRightReturn x (s.left - 1) (former_pin (slice_get x.plan.changes (s.left - 1))) to.change h
 asks_set x s h live to =
+    let up : Ascends (suc (s.left - 1)) x.first.begun (put_right x h) = one_more s.left x.first.begun (put_right x h) to.more live.order in
     record {
       planned = to.planned;
       pin_of_plan = ap former_pin to.planned;
       begun = omega (arith, to.more, live.left);
-      order = one_more s.left x.first.begun (put_right x h) to.more live.order;
+      order = up;
+      falls = λ j w. omega (arith, ascends_above (suc (s.left - 1)) x.first.begun (put_right x h) up j (set_right x h live.kept.calm j w));
       stored = to.noted.stored;
       checked = to.checked;
       calm = live.kept.calm;

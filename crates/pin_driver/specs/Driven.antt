@@ -51,6 +51,7 @@ pub record IsRightSet (x : Task) (i : ℕ) (pin : Option ℕ) (change : PlannedC
   pub planned : slice_get x.plan.changes i ≡ Some change
   pub pin_of_plan : pin ≡ change.after
   pub order : Descends i x.first.certain (settled_places h)
+  pub rises : (j : ℕ) → WasSet h j → j < i
   pub stored : (mark : Mark) × (last_stored h ≡ Some mark) × (i < mark.begun)
   pub checked : IsLookedAt x i change h
   pub calm : IsCalm (unlike_plan x) x h

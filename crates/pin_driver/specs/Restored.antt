@@ -48,6 +48,7 @@ pub record IsRightReturn (x : Task) (i : ℕ) (pin : Option ℕ) (change : Plann
   pub pin_of_plan : pin ≡ change.before
   pub begun : i < x.first.begun
   pub order : Ascends (suc i) x.first.begun (put_right x h)
+  pub falls : (j : ℕ) → WasSet h j → i < j
   pub stored : last_stored h ≡ Some (doubtful_mark x.first)
   pub checked : IsFoundOurs x i change h
   pub calm : IsCalm any_directory x h
