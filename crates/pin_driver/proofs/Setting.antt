@@ -590,9 +590,6 @@ first_run x s h (a ∷ more) =
     first_run x (setter_after x s a) (with_exchange (has_ended s.phase) (record { asked = setter_question x s; answer = a }) h) more
     ∙ first_one s.phase x s h a refl
 
-first_rests : (x : Task) → x.first.certain < x.first.begun → setter_question x (setter_start x) ≡ questions.Wait REST_SECONDS
-first_rests x lt = rw (lt-ltb x.first.certain x.first.begun lt) refl
-
 -- what is asked
 pub record Drives (x : Task) (h : List Exchange) (q : Question) : Type 0 where
   pub right : AreRightQuestions x h
@@ -625,23 +622,24 @@ drives_in (phases.Ended ending) x s h i =
     record { right = i.0.right; next = i.1; texts = i.0.texts; next_named = λ mark k pin m e. absurd cc }
 
 starts : (x : Task) → IsMark x.first (length x.plan.changes) → Is x (setter_start x) []
-starts x mark = elim (cases_lt x.first.certain x.first.begun) [
-  | inl lt ↦ rw (lt-ltb x.first.certain x.first.begun lt) (live phases.Resting, record { mark = refl; stored = refl; looks = refl; unknown = refl })
-  | inr le ↦ rw (le-ltb x.first.certain x.first.begun le) (live phases.Opening, record { mark = refl; stored = refl; looks = refl; unknown = refl })
-]
-  where
-    live : (p : SetterPhase) → Live x (record (setter_start x) { phase = p }) []
-    live p = record {
-      kept = record { right = tt; calm = tt; text = record { sound = mark; grown = omega arith; ours = λ i w. absurd w; sure = λ i lt. inl lt } };
-      cluster = refl;
-      left = grind arith;
-      looks = refl;
-      order = refl;
-      begun = omega arith;
-      sound = mark;
-      at = mark.certain;
-      fresh = λ _. refl;
-    }
+starts x mark = (
+  record {
+    kept = record {
+      right = tt;
+      calm = tt;
+      text = record { sound = mark; grown = omega arith; ours = λ i w. absurd w; sure = λ i lt. inl lt };
+    };
+    cluster = refl;
+    left = grind arith;
+    looks = refl;
+    order = refl;
+    begun = omega arith;
+    sound = mark;
+    at = mark.certain;
+    fresh = λ _. refl;
+  },
+  record { mark = refl; stored = refl; looks = refl; unknown = refl },
+)
 
 pub drives : (x : Task) (more : List HostAnswer) → IsMark x.first (length x.plan.changes) →
     IsDriven x (setter_run x (setter_start x) [] more).1 (setter_question x (setter_run x (setter_start x) [] more).0)
@@ -654,5 +652,5 @@ drives x more mark =
       next = all.next;
       texts = all.texts;
       next_named = all.next_named;
-      rests = λ lt. first_run x (setter_start x) [] more ∙ first_rests x lt;
+      rests = first_run x (setter_start x) [] more;
     }

@@ -122,5 +122,5 @@ pub record IsDriven (x : Task) (h : List Exchange) (asked : Question) : Type 0 w
   -- a change that is to be set now is named by the text, too
   pub next_named : (mark : Mark) (i : ℕ) (pin : Option ℕ) → MayBeStored x.first h mark →
       asked ≡ questions.Set i pin → i < mark.begun
-  -- where changes may be made already, it waits before all else, until no pin is read as its old value
-  pub rests : x.first.certain < x.first.begun → first_asked asked h ≡ questions.Wait REST_SECONDS
+  -- it waits before all else, until no pin is read as its old value
+  pub rests : first_asked asked h ≡ questions.Wait REST_SECONDS

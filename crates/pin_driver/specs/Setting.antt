@@ -111,7 +111,7 @@ after_verdict None x s a = advanced s.phase x s a
 abbrev pub setter_after : Task → SetterState → HostAnswer → SetterState
 setter_after x s a = after_verdict (setter_trouble x s a) x s a
 
--- a setter at its begin: what may be set already may be read wrongly for some seconds
+-- a setter at its begin: what was set just before may be read as its old value for some seconds
 abbrev pub setter_start : Task → SetterState
 setter_start x =
     record {
@@ -120,7 +120,7 @@ setter_start x =
       cluster = None;
       left = x.pace.longest_wait;
       still = LOOKS;
-      phase = if nat_lt x.first.certain x.first.begun then phases.Resting else phases.Opening;
+      phase = phases.Resting;
     }
 
 abbrev pub has_ended : SetterPhase → Bool

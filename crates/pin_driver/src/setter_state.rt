@@ -76,11 +76,7 @@ impl SetterState {
             cluster: None,
             left: task.pace.longest_wait,
             still: LOOKS,
-            phase: if task.first.certain < task.first.begun {
-                SetterPhase::Resting
-            } else {
-                SetterPhase::Opening
-            },
+            phase: SetterPhase::Resting,
         }
     }
 

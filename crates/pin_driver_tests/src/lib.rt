@@ -4,7 +4,7 @@
 #[cfg(test)]
 mod given;
 #[cfg(test)]
-mod hosts;
+mod judged;
 #[cfg(test)]
 mod same;
 #[cfg(test)]

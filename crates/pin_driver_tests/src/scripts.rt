@@ -30,6 +30,7 @@ fn question(ask: Ask) -> Question {
 
 /// The first batch of the plan, until all is in place at the third look.
 const FIRST_BATCH: &[(Ask, Say)] = &[
+    (Ask::Wait(10), Say::Waited),
     (Ask::Cluster, Say::Same),
     (Ask::Store(1, 0), Say::Stored),
     (Ask::Cluster, Say::Same),
@@ -167,16 +168,17 @@ fn pins_of_others_are_left_alone(rt: HostRuntime) {
 
 /// A question of a setter, an answer, and the trouble that it is.
 const TROUBLES: &[(usize, Say, Trouble)] = &[
-    (0, Say::NoAnswer, Trouble::NoAnswer),
-    (1, Say::Refused, Trouble::Refused),
-    (1, Say::Done, Trouble::Nonsense),
-    (2, Say::OtherRanks, Trouble::RanksChanged),
-    (2, Say::NewWarning, Trouble::NewWarning),
-    (3, Say::Found(101, None), Trouble::OtherDirectory),
-    (3, Say::Found(100, Some(1)), Trouble::PinChanged),
-    (4, Say::Refused, Trouble::Refused),
-    (4, Say::NoAnswer, Trouble::NoAnswer),
-    (5, Say::Gone, Trouble::Nonsense),
+    (0, Say::Refused, Trouble::Refused),
+    (1, Say::NoAnswer, Trouble::NoAnswer),
+    (2, Say::Refused, Trouble::Refused),
+    (2, Say::Done, Trouble::Nonsense),
+    (3, Say::OtherRanks, Trouble::RanksChanged),
+    (3, Say::NewWarning, Trouble::NewWarning),
+    (4, Say::Found(101, None), Trouble::OtherDirectory),
+    (4, Say::Found(100, Some(1)), Trouble::PinChanged),
+    (5, Say::Refused, Trouble::Refused),
+    (5, Say::NoAnswer, Trouble::NoAnswer),
+    (6, Say::Gone, Trouble::Nonsense),
 ];
 
 #[test]
