@@ -4,7 +4,7 @@ ghost use Rattle.std.specs.Prelude.{◌≡◌, length};
 use crate::same::Sure;
 use mds_types::Rank;
 use pin_driver::{
-    Bytes, ClusterState, EarlierPin, FoundPin, HostAnswer, Mark, PinPlan, PlannedChange, Pace, Task,
+    Bytes, ClusterState, EarlierPin, FoundPin, HostAnswer, Mark, Pace, PinPlan, PlannedChange, Task,
 };
 use std::alloc::Global;
 use std::process::Abort;

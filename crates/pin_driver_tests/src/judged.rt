@@ -50,7 +50,11 @@ struct Known {
 /// The directory of the plan's change at a place, as it is before and after it.
 fn pins(place: usize) -> (Say, Say, Option<Rank>) {
     if place == 0 {
-        (Say::Found(100, None), Say::Found(100, Some(1)), rank(Some(1)))
+        (
+            Say::Found(100, None),
+            Say::Found(100, Some(1)),
+            rank(Some(1)),
+        )
     } else {
         (Say::Found(7, Some(2)), Say::Found(7, None), None)
     }
@@ -68,17 +72,18 @@ impl Known {
     }
 
     /// Whether the answer is the one that lets the driver go on.
-    fn is_good(&self, exchange: Exchange) -> bool {
-        match (exchange.asked, exchange.said) {
-            (Question::Wait(_), Say::Waited) => true,
-            (Question::Cluster, Say::Same) => true,
-            (Question::Store(_), Say::Stored) => true,
-            (Question::Get(_), Say::Gone) => true,
-            (Question::Get(place), said) => self.is_found(place, said),
-            (Question::Set(_, _), Say::Done) => true,
-            (Question::Set(_, _), Say::Gone) => true,
-            (Question::Roots, Say::InPlace(is)) => is || self.waited < 10,
-            _ => false,
+    fn is_good(&self, exchange: &Exchange) -> bool {
+        let said = exchange.said;
+        match &exchange.asked {
+            Question::Wait(_) => said == Say::Waited,
+            Question::Cluster => said == Say::Same,
+            Question::Store(_) => said == Say::Stored,
+            Question::Get(place) => said == Say::Gone || self.is_found(*place, said),
+            Question::Set(_, _) => said == Say::Done || said == Say::Gone,
+            Question::Roots => {
+                said == Say::InPlace(true) || (said == Say::InPlace(false) && self.waited < 10)
+            }
+            Question::End(_) => false,
         }
     }
 
@@ -113,24 +118,31 @@ impl Known {
         }
     }
 
-    fn look(&mut self, exchange: Exchange) {
-        self.is_troubled = !self.is_good(exchange);
-        match (exchange.asked, exchange.said) {
-            (Question::Store(mark), Say::Stored) => {
-                self.stored = Some(mark);
+    /// What the exchange adds to it.
+    fn look(&mut self, exchange: &Exchange) {
+        match &exchange.asked {
+            Question::Store(mark) if exchange.said == Say::Stored => {
+                self.stored = Some(*mark);
                 self.looks = 0;
                 self.waited = 0;
             }
-            (Question::Get(_), Say::Gone) | (Question::Set(_, _), Say::Done | Say::Gone) => {
-                self.next = self.next.saturating_add(1);
-                self.looks = 0;
+            Question::Get(_) if exchange.said == Say::Gone => self.settle(),
+            Question::Set(_, _) if exchange.said == Say::Done || exchange.said == Say::Gone => {
+                self.settle();
             }
-            (Question::Roots, Say::InPlace(true)) => self.looks = self.looks.saturating_add(1),
-            (Question::Roots, _) => self.looks = 0,
-            (Question::Wait(seconds), _) => self.waited = self.waited.saturating_add(seconds),
+            Question::Roots if exchange.said == Say::InPlace(true) => {
+                self.looks = self.looks.saturating_add(1);
+            }
+            Question::Roots => self.looks = 0,
+            Question::Wait(seconds) => self.waited = self.waited.saturating_add(*seconds),
             _ => {}
         }
-        self.last = Some(exchange);
+    }
+
+    /// A change is settled.
+    fn settle(&mut self) {
+        self.next = self.next.saturating_add(1);
+        self.looks = 0;
     }
 }
 
@@ -168,7 +180,10 @@ fn run<R: Abort>(rt: &R, alloc: Global, first: Mark, numbers: &mut Vec<usize>) {
         }
         let number = numbers.get(at).copied().unwrap_or(0);
         let said = SAYINGS.get(number).copied().unwrap_or(Say::Nonsense);
-        known.look(Exchange { asked, said });
+        let exchange = Exchange { asked, said };
+        known.is_troubled = !known.is_good(&exchange);
+        known.look(&exchange);
+        known.last = Some(exchange);
         let _ = setter.answer(answer(rt, alloc, said));
     }
     panic!(rt; "the run does not end: {numbers:?}");
@@ -176,10 +191,13 @@ fn run<R: Abort>(rt: &R, alloc: Global, first: Mark, numbers: &mut Vec<usize>) {
 
 /// The next numbers, in order. Whether there are some.
 fn advance<R: Abort>(rt: &R, numbers: &mut Vec<usize>) -> bool {
-    while let Some(last) = numbers.pop() {
-        if last < SAYINGS.len() - 1 {
-            numbers.push(last + 1).sure(rt);
-            return true;
+    for _ in 0..numbers.len() {
+        match numbers.pop() {
+            Some(last) if last < SAYINGS.len() - 1 => {
+                numbers.push(last + 1).sure(rt);
+                return true;
+            }
+            _ => {}
         }
     }
     false

@@ -190,7 +190,12 @@ fn troubles_stop(rt: HostRuntime) {
         assert!(rt; row.0 <= table.len());
         sets(&rt, alloc, &mut setter, &table[..row.0]);
         let _ = setter.answer(answer(&rt, alloc, row.1));
-        same_in(&rt, &setter.question(), &Question::End(Ending::Stopped(row.2)), row);
+        same_in(
+            &rt,
+            &setter.question(),
+            &Question::End(Ending::Stopped(row.2)),
+            row,
+        );
         // the end stays
         let _ = setter.answer(answer(&rt, alloc, Say::Done));
         assert!(rt; is_stopped(setter.question(), row.2));

@@ -32,12 +32,30 @@ const REFUSED: &[(&[u8], TextError)] = &[
     (b"", TextError::Form),
     (b"mdbal_pins 2\nplan x\n", TextError::Version(2)),
     (b"mdbal_pins 18446744073709551616\n", TextError::Form),
-    (b"mdbal_pins 01\nplan \nmark 0 0\nchanges 0\npins 0\nend\n", TextError::Form),
-    (b"mdbal_pins 1\nplan \nmark 0 0\nchanges 0\npins 0\nend", TextError::Form),
-    (b"mdbal_pins 1\nplan \nmark 1 0\nchanges 0\npins 0\nend\n", TextError::Form),
-    (b"mdbal_pins 1\nplan \nmark 0 0\nchanges 0\npins 0\nend\n\n", TextError::Form),
-    (b"mdbal_pins 1\nplan \\1\nmark 0 0\nchanges 0\npins 0\nend\n", TextError::Form),
-    (b"mdbal_pins 1\nplan a\nmark 0 0\nchanges 1\nchange - 64 - 0 /\npins 0\nend\n", TextError::Form),
+    (
+        b"mdbal_pins 01\nplan \nmark 0 0\nchanges 0\npins 0\nend\n",
+        TextError::Form,
+    ),
+    (
+        b"mdbal_pins 1\nplan \nmark 0 0\nchanges 0\npins 0\nend",
+        TextError::Form,
+    ),
+    (
+        b"mdbal_pins 1\nplan \nmark 1 0\nchanges 0\npins 0\nend\n",
+        TextError::Form,
+    ),
+    (
+        b"mdbal_pins 1\nplan \nmark 0 0\nchanges 0\npins 0\nend\n\n",
+        TextError::Form,
+    ),
+    (
+        b"mdbal_pins 1\nplan \\1\nmark 0 0\nchanges 0\npins 0\nend\n",
+        TextError::Form,
+    ),
+    (
+        b"mdbal_pins 1\nplan a\nmark 0 0\nchanges 1\nchange - 64 - 0 /\npins 0\nend\n",
+        TextError::Form,
+    ),
 ];
 
 #[test]
