@@ -3,7 +3,7 @@ use Rattle.std.proofs.Common.{ℕ, ◌<◌, Bool, true, false, List, [], ◌∷�
 use Rattle.pin_driver.specs.Driven.{IsMark, IsTextOf}
 use Rattle.pin_driver.specs.Exchanges.{Exchange, MayBeStored}
 use Rattle.pin_driver.specs.Restored.{IsBackText}
-use Rattle.pin_driver.specs.Sessions.{AreAccounted, AreSessions, IsMadeSure, MayBeLeft, MayBeOurs, OursAfter, SettledAfter, Session}
+use Rattle.pin_driver.specs.Sessions.{AreAccounted, IsRightRun, AreSessions, IsMadeSure, MayBeLeft, MayBeOurs, OursAfter, SettledAfter, Session}
 use Rattle.pin_driver.specs.Sessions.{exchanges_of, restorer_exchanges, session_exchanges, session_task, setter_exchanges}
 use Rattle.pin_driver.specs.declared.plan.PinPlan.{PinPlan}
 use Rattle.pin_driver.specs.declared.question.Mark.{Mark}
@@ -45,10 +45,14 @@ after_one true x more mark Ours Settled sound ours certain m =
       ),
     )
 
+right_run : (back : Bool) (x : Task) (more : List HostAnswer) → IsMark x.first (length x.plan.changes) → IsRightRun back x more
+right_run true x more sound = returns x more
+right_run false x more sound = drives x more sound
+
 pub accounts : (plan : PinPlan) (start : Mark) (sessions : List Session) (mark : Mark) → IsMark start (length plan.changes) →
     AreSessions plan start sessions → MayBeLeft plan start sessions mark → AreAccounted plan start sessions mark
 accounts plan start [] mark sound are m =
-    rw m (record { sound = sound; ours = λ i lt. lt; certain = λ i lt. lt })
+    rw m (record { runs = tt; sound = sound; ours = λ i lt. lt; certain = λ i lt. lt })
 accounts plan start (s ∷ older) mark sound are m =
     let before : AreAccounted plan start older s.first = accounts plan start older s.first sound are.1 are.0 in
     let P : ℕ → Type 0 = λ i. MayBeOurs plan start older i in
@@ -57,4 +61,4 @@ accounts plan start (s ∷ older) mark sound are m =
     × ((i : ℕ) → OursAfter s.way_back (session_task plan s) (session_exchanges plan s) i (P i) → i < mark.begun)
     × ((i : ℕ) → i < mark.certain → SettledAfter s.way_back (session_exchanges plan s) i (Q i)) =
     after_one s.way_back (session_task plan s) s.answers mark P Q before.sound before.ours before.certain m in
-    record { sound = after.0; ours = after.1; certain = after.2 }
+    record { runs = (right_run s.way_back (session_task plan s) s.answers before.sound, before.runs); sound = after.0; ours = after.1; certain = after.2 }

@@ -27,7 +27,7 @@ use Rattle.pin_driver.specs.declared.setter_state.SetterState.{SetterState}
 use Rattle.pin_driver.specs.declared.task.Task.{Task}
 use Rattle.pin_driver.specs.declared.task.TheConstants.{LOOKS, REST_SECONDS}
 use Rattle.pin_driver.proofs.Answers.{stored_answer, set_answer, cluster_answer, get_answer}
-use Rattle.pin_driver.proofs.Places.{descends_below}
+use Rattle.pin_driver.proofs.Places.{descends_above, descends_below}
 use Rattle.pin_driver.proofs.Kept.{set_settled, Kept, Told, keeps, tells, told, next_named}
 
 -- a setter that has not ended is where its exchanges leave it
@@ -122,6 +122,7 @@ asks phases.Setting x s h e i = (
       planned = i.1.planned;
       pin_of_plan = ap given_pin i.1.planned;
       order = i.0.order;
+      uncertain = descends_above s.at x.first.certain (settled_places h) i.0.order;
       rises = λ j w. descends_below s.at x.first.certain (settled_places h) i.0.order j (set_settled x h i.0.kept.calm j w);
       stored = (s.mark, i.1.noted.stored, i.1.more);
       checked = i.1.checked;

@@ -50,6 +50,7 @@ IsLookedAt x i change (e ∷ h) =
 pub record IsRightSet (x : Task) (i : ℕ) (pin : Option ℕ) (change : PlannedChange) (h : List Exchange) : Type 0 where
   pub planned : slice_get x.plan.changes i ≡ Some change
   pub pin_of_plan : pin ≡ change.after
+  pub uncertain : x.first.certain ≤ i
   pub order : Descends i x.first.certain (settled_places h)
   pub rises : (j : ℕ) → WasSet h j → j < i
   pub stored : (mark : Mark) × (last_stored h ≡ Some mark) × (i < mark.begun)

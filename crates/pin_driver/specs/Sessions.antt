@@ -1,9 +1,9 @@
 -- Runs of setters and restorers of one plan, each begun from a text that the one before it may have left, the last one
 -- first.
 use Rattle.std.specs.Prelude.{◌≡◌, ◌⊎◌, ℕ, ◌<◌, Bool, true, false, List, [], ◌∷◌, length}
-use Rattle.pin_driver.specs.Driven.{IsMark, settled_places}
+use Rattle.pin_driver.specs.Driven.{IsDriven, IsMark, settled_places}
 use Rattle.pin_driver.specs.Exchanges.{Exchange, HasPlace, MayBeStored, WasSet}
-use Rattle.pin_driver.specs.Restored.{put_right}
+use Rattle.pin_driver.specs.Restored.{IsRestored, put_right}
 use Rattle.pin_driver.specs.Restoring.{restorer_question, restorer_run, restorer_start}
 use Rattle.pin_driver.specs.Setting.{setter_question, setter_run, setter_start}
 use Rattle.pin_driver.specs.declared.answer.HostAnswer.{HostAnswer}
@@ -77,8 +77,19 @@ IsMadeSure plan start [] i = i < start.certain
 IsMadeSure plan start (s ∷ older) i =
     SettledAfter s.way_back (session_exchanges plan s) i (IsMadeSure plan start older i)
 
+-- all that a run asked is right
+abbrev pub IsRightRun : Bool → Task → List HostAnswer → Type 0
+IsRightRun true x more = IsRestored x (restorer_exchanges x more) (restorer_asks x more)
+IsRightRun false x more = IsDriven x (setter_exchanges x more) (setter_asks x more)
+
+abbrev pub AreRightRuns : PinPlan → List Session → Type 0
+AreRightRuns plan [] = Unit {0}
+AreRightRuns plan (s ∷ older) = IsRightRun s.way_back (session_task plan s) s.answers × AreRightRuns plan older
+
 -- whatever was answered in these runs, and wherever each was left
 pub record AreAccounted (plan : PinPlan) (start : Mark) (sessions : List Session) (mark : Mark) : Type 0 where
+  -- each run asked what is right
+  pub runs : AreRightRuns plan sessions
   -- the text is one of the plan
   pub sound : IsMark mark (length plan.changes)
   -- it names each pin that may be ours

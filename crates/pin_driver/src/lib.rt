@@ -23,7 +23,8 @@
 //!
 //! Not promised, as it depends on the host and on the cluster: that answers are true; that a text which was answered as
 //! stored is the one that is read next; that a pin which was set stays, or is read again within ten seconds; that only
-//! one run goes on at a time; that nobody changes a pin between `Get` and `Set`; that a run ends.
+//! one run goes on at a time; that nobody changes a pin between `Get` and `Set`, or pins a
+//! directory of the plan to the very rank that the plan gives it; that a run ends.
 #![tactic(auto)]
 
 pub mod answer;
