@@ -1,5 +1,6 @@
 pub mod Answers
 pub mod FieldsAgain
+pub mod Items
 pub mod Kept
 pub mod KeptBack
 pub mod Many

@@ -30,6 +30,7 @@
 pub mod answer;
 pub mod bytes;
 mod fields;
+mod fits;
 pub mod laws;
 pub mod note;
 pub mod plan;

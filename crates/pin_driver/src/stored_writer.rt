@@ -1,10 +1,12 @@
 //! Writing the text that is stored of a plan.
 ghost use Rattle.std.specs.Prelude.{◌≡◌, ◌<◌, ◌++◌, ◌∷◌, [], IfOk, OnOk, decimal, length, string_bytes};
 ghost use Rattle.std.specs.List.{flat_map};
+ghost use Rattle.pin_driver.specs.StoredText.{FitsText};
 ghost use Rattle.pin_driver.specs.StoredText.{change_text, count_text, earlier_text, field_text, kept_byte, kept_bytes};
 ghost use Rattle.pin_driver.specs.StoredText.{is_kept, last_text, mark_text, number_or_dash, stored_text};
 
 use crate::bytes::Bytes;
+use crate::fits::text_fits;
 use crate::plan::{EarlierPin, PinPlan, PlannedChange};
 use crate::question::Mark;
 use mds_types::Rank;
@@ -160,8 +162,11 @@ fn push_pins(alloc: Global, text: &mut Vec<u8>, pins: &[EarlierPin]) -> Result<(
 /// The text of a plan with this mark.
 #[tactic(auto, unfolding(crate::specs::StoredText::stored_text, crate::specs::StoredText::body_text, crate::specs::StoredText::version_text))]
 pub fn stored_text(alloc: Global, plan: &PinPlan, mark: Mark) -> Result<Vec<u8>, AllocError>
-    ensures { IfOk result (λ text. text.items ≡ stored_text plan.now mark) }
+    ensures text { IfOk result (λ text. text.items ≡ stored_text plan.now mark) }
+    // So `read_stored` reads it again.
+    ensures fits { FitsText plan.now mark }
 {
+    text_fits(plan, mark);
     let mut text = Vec::new(alloc);
     push_count(alloc, &mut text, b"mdbal_pins", VERSION)?;
     push_field(&mut text, b"plan")?;
