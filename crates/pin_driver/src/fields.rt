@@ -1,5 +1,5 @@
 //! The fields of a stored text, one after another, and what they say.
-ghost use Rattle.std.specs.Prelude.{◌≡◌, ◌≤◌, ◌++◌, IfOk, IfSome, OnOk, Some, length, option_map};
+ghost use Rattle.std.specs.Prelude.{◌≡◌, ◌≤◌, ◌++◌, IfSome, OnOk, Some, length, option_map};
 ghost use Rattle.std.specs.List.{after_first, before_first, position_or_len};
 ghost use Rattle.pin_driver.specs.StoredReading.{escape_value, field_bytes, field_number, field_rank, found_view};
 ghost use Rattle.pin_driver.specs.StoredReading.{closes_field};

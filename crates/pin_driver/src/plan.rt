@@ -1,6 +1,5 @@
 //! Changes of export pins that are planned, in their order.
-ghost use Rattle.std.specs.Prelude.{◌≡◌, length, slice_get};
-ghost use Rattle.std.specs.Option.{option_copied};
+ghost use Rattle.std.specs.Prelude.{◌≡◌};
 
 use crate::bytes::Bytes;
 use mds_types::Rank;

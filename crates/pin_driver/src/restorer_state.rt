@@ -7,7 +7,7 @@
 //!                                closing -> ended
 //! ```
 
-ghost use Rattle.std.specs.Prelude.{◌≡◌, ◌-◌, ◌==◌, slice_get, nat_le, not, if◌then◌else◌};
+ghost use Rattle.std.specs.Prelude.{◌≡◌, ◌-◌, ◌==◌, slice_get};
 ghost use Rattle.pin_driver.specs.Restoring.{is_given, is_restorable, is_to_restore, former_pin, restorable_at};
 ghost use Rattle.pin_driver.specs.Restoring.{restored_one, restorer_advanced, restorer_after, restorer_question};
 ghost use Rattle.pin_driver.specs.Restoring.{restorer_start, restorer_trouble, any_directory};

@@ -9,8 +9,7 @@
 //!                         +-------- closing -> ended             until all batches are
 //! ```
 
-ghost use Rattle.std.specs.Prelude.{◌≡◌, ◌-◌, length, nat_lt, slice_get, if◌then◌else◌};
-ghost use Rattle.pin_driver.specs.Driven.{IsMark};
+ghost use Rattle.std.specs.Prelude.{◌≡◌, ◌-◌, nat_lt, slice_get, if◌then◌else◌};
 ghost use Rattle.pin_driver.specs.Exchanges.{named_cluster};
 ghost use Rattle.pin_driver.specs.Setting.{advanced, batch_end, begin_batch, closed, closed_mark, looked, passed};
 ghost use Rattle.pin_driver.specs.Setting.{given_pin};

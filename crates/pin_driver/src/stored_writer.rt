@@ -1,5 +1,5 @@
 //! Writing the text that is stored of a plan.
-ghost use Rattle.std.specs.Prelude.{◌≡◌, ◌<◌, ◌++◌, ◌∷◌, [], IfOk, OnOk, decimal, length, string_bytes};
+ghost use Rattle.std.specs.Prelude.{◌≡◌, ◌<◌, ◌++◌, IfOk, OnOk, decimal};
 ghost use Rattle.std.specs.List.{flat_map};
 ghost use Rattle.pin_driver.specs.StoredText.{FitsText};
 ghost use Rattle.pin_driver.specs.StoredText.{change_text, count_text, earlier_text, field_text, kept_byte, kept_bytes};

@@ -1,11 +1,10 @@
 //! Which answers are troubles.
-ghost use Rattle.std.specs.Prelude.{◌≡◌, nat_lt, slice_get, None, Some, List, ℕ, Option};
+ghost use Rattle.std.specs.Prelude.{◌≡◌, None, Some, Option};
 ghost use Rattle.std.specs.List.{list_any};
 ghost use Rattle.std.specs.Str.{bytes_eq};
-ghost use Rattle.std.specs.Option.{option_copied};
 ghost use Rattle.pin_driver.specs.Troubles.{are_warnings_of, cluster_trouble, is_expected, is_inode, is_same_pin};
 ghost use Rattle.pin_driver.specs.Troubles.{get_trouble, misfit, roots_trouble, set_trouble, state_trouble};
-ghost use Rattle.pin_driver.specs.Troubles.{store_trouble, unlike_change, unlike_plan, wait_trouble};
+ghost use Rattle.pin_driver.specs.Troubles.{store_trouble, unlike_plan, wait_trouble};
 
 use crate::answer::{ClusterState, FoundPin, HostAnswer};
 use crate::bytes::Bytes;
