@@ -23,6 +23,7 @@ pub record IsMark (mark : Mark) (changes : ℕ) : Type 0 where
   pub begun : mark.begun ≤ changes
   pub certain : mark.certain ≤ mark.begun
 
+-- with the place of the change in front, where the exchange settles one
 abbrev pub settled_more : Question → HostAnswer → List ℕ → List ℕ
 settled_more q a places = with_place (setter_note q a) places
 

@@ -11,6 +11,7 @@ use Rattle.pin_driver.specs.declared.question.Question.TheVariants as questions
 use Rattle.pin_driver.specs.declared.question.Trouble.{Trouble}
 use Rattle.pin_driver.specs.declared.task.Task.{Task}
 
+-- a question, and the answer to it
 pub record Exchange : Type 0 where
   pub asked : Question
   pub answer : HostAnswer
@@ -20,10 +21,12 @@ abbrev pub named_cluster : HostAnswer → Option ClusterState
 named_cluster (answers.Cluster c) = Some c
 named_cluster _ = None
 
+-- the same, where that was asked for
 abbrev pub asked_cluster : Question → HostAnswer → Option ClusterState
 asked_cluster questions.Cluster a = named_cluster a
 asked_cluster _ a = None
 
+-- the first of two states that is there
 abbrev pub or_later : Option ClusterState → Option ClusterState → Option ClusterState
 or_later (Some c) later = Some c
 or_later None later = later
@@ -33,6 +36,7 @@ abbrev pub first_cluster : List Exchange → Option ClusterState
 first_cluster [] = None
 first_cluster (e ∷ h) = or_later (first_cluster h) (asked_cluster e.asked e.answer)
 
+-- the seconds after one more exchange
 abbrev pub waited_more : Question → ℕ → ℕ
 waited_more (questions.Wait seconds) n = n + seconds
 waited_more (questions.Store mark) n = 0
@@ -43,14 +47,17 @@ abbrev pub waited : List Exchange → ℕ
 waited [] = 0
 waited (e ∷ h) = waited_more e.asked (waited h)
 
+-- the answer says that all is in place
 abbrev pub is_in_place : HostAnswer → Bool
 is_in_place (answers.InPlace is) = is
 is_in_place _ = false
 
+-- a look counts on, or begins the count anew
 abbrev pub looks_after : Bool → ℕ → ℕ
 looks_after true n = n + 1
 looks_after false n = 0
 
+-- the count after one more exchange
 abbrev pub looks_more : Question → HostAnswer → ℕ → ℕ
 looks_more questions.Roots a n = looks_after (is_in_place a) n
 looks_more (questions.Store mark) a n = 0
@@ -78,6 +85,8 @@ MayStand (questions.Store asked) answers.Stored mark before = mark ≡ asked
 MayStand (questions.Store asked) a mark before = (mark ≡ asked) ⊎ before
 MayStand _ a mark before = before
 
+-- the text with this mark may be the one that is stored after these exchanges, which began from the text with the
+-- first
 abbrev pub MayBeStored : Mark → List Exchange → Mark → Type 0
 MayBeStored first [] mark = mark ≡ first
 MayBeStored first (e ∷ h) mark = MayStand e.asked e.answer mark (MayBeStored first h mark)

@@ -23,6 +23,7 @@ pub record IsOurDirectory (x : Task) (i : ℕ) (change : PlannedChange) (found :
   pub inode : IfSome change.inode (λ inode. found.inode ≡ inode)
   pub pin : (found.pin ≡ change.after) ⊎ ((x.first.certain ≤ i) × (found.pin ≡ change.before))
 
+-- with the place of the change in front, where the exchange puts one right
 abbrev pub put_right_more : Task → Question → HostAnswer → List ℕ → List ℕ
 put_right_more x q a places = with_place (restorer_note x q a) places
 
@@ -73,6 +74,7 @@ abbrev pub HasBackTrouble : Task → List Exchange → Trouble → Type 0
 HasBackTrouble x [] t = ⊥
 HasBackTrouble x (e ∷ h) t = trouble_after any_directory x h e ≡ Some t
 
+-- a restorer ends where all is put right, or in a trouble
 abbrev pub IsRightBackEnd : Task → Ending → List Exchange → Type 0
 IsRightBackEnd x Done h = IsAllReturned x h
 IsRightBackEnd x (Stopped t) h = HasBackTrouble x h t

@@ -31,6 +31,7 @@ doubtful_mark mark = record { begun = mark.begun; certain = 0 }
 abbrev pub no_mark : Mark
 no_mark = record { begun = 0; certain = 0 }
 
+-- the pin before the change at a place
 abbrev pub former_pin : Option PlannedChange → Option ℕ
 former_pin None = None
 former_pin (Some change) = change.before
@@ -45,9 +46,11 @@ abbrev pub is_restorable : Bool → Option PlannedChange → FoundPin → Bool
 is_restorable is_certain None found = false
 is_restorable is_certain (Some change) found = is_inode change.inode found.inode && is_given is_certain change found.pin
 
+-- the directory of the change at a place was found with a pin that is restored
 abbrev pub restorable_at : Task → ℕ → FoundPin → Bool
 restorable_at x i found = is_restorable (not (nat_le x.first.certain i)) (slice_get x.plan.changes i) found
 
+-- what a restorer asks in a phase
 abbrev pub restorer_question_in : RestorerPhase → Task → RestorerState → Question
 restorer_question_in phases.Resting x s = questions.Wait REST_SECONDS
 restorer_question_in phases.Opening x s = questions.Cluster
@@ -88,6 +91,7 @@ restorer_advanced phases.Restoring x s a = restored_one s
 restorer_advanced phases.Closing x s a = record s { phase = phases.Ended Done }
 restorer_advanced (phases.Ended ending) x s a = s
 
+-- a restorer after an answer, with what is wrong with it
 abbrev pub restorer_verdict : Option Trouble → Task → RestorerState → HostAnswer → RestorerState
 restorer_verdict (Some t) x s a = record s { phase = phases.Ended (Stopped t) }
 restorer_verdict None x s a = restorer_advanced s.phase x s a
@@ -100,6 +104,7 @@ restorer_after x s a = restorer_verdict (restorer_trouble x s a) x s a
 abbrev pub restorer_start : Task → RestorerState
 restorer_start x = record { left = x.first.begun; cluster = None; phase = phases.Resting }
 
+-- nothing more is asked in this phase
 abbrev pub restorer_ended : RestorerPhase → Bool
 restorer_ended (phases.Ended ending) = true
 restorer_ended _ = false

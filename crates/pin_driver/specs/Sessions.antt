@@ -25,6 +25,7 @@ setter_asks x more = setter_question x (setter_run x (setter_start x) [] more).0
 abbrev pub restorer_exchanges : Task → List HostAnswer → List Exchange
 restorer_exchanges x more = (restorer_run x (restorer_start x) [] more).1
 
+-- what it asks then
 abbrev pub restorer_asks : Task → List HostAnswer → Question
 restorer_asks x more = restorer_question x (restorer_run x (restorer_start x) [] more).0
 
@@ -35,13 +36,16 @@ pub record Session : Type 0 where
   pub pace : Pace
   pub answers : List HostAnswer
 
+-- the task of a run of this plan
 abbrev pub session_task : PinPlan → Session → Task
 session_task plan s = record { plan = plan; first = s.first; pace = s.pace }
 
+-- the exchanges of a way back, or of a setter
 abbrev pub exchanges_of : Bool → Task → List HostAnswer → List Exchange
 exchanges_of true x more = restorer_exchanges x more
 exchanges_of false x more = setter_exchanges x more
 
+-- the exchanges of a run of this plan
 abbrev pub session_exchanges : PinPlan → Session → List Exchange
 session_exchanges plan s = exchanges_of s.way_back (session_task plan s) s.answers
 
@@ -61,6 +65,7 @@ abbrev pub OursAfter : Bool → Task → List Exchange → ℕ → Type 0 → Ty
 OursAfter true x h i before = before × (HasPlace i (put_right x h) → ⊥)
 OursAfter false x h i before = WasSet h i ⊎ before
 
+-- the same after many runs
 abbrev pub MayBeOurs : PinPlan → Mark → List Session → ℕ → Type 0
 MayBeOurs plan start [] i = i < start.begun
 MayBeOurs plan start (s ∷ older) i =
@@ -72,6 +77,7 @@ abbrev pub SettledAfter : Bool → List Exchange → ℕ → Type 0 → Type 0
 SettledAfter true h i before = before × ((j : ℕ) → WasSet h j → ⊥)
 SettledAfter false h i before = HasPlace i (settled_places h) ⊎ before
 
+-- the same after many runs
 abbrev pub IsMadeSure : PinPlan → Mark → List Session → ℕ → Type 0
 IsMadeSure plan start [] i = i < start.certain
 IsMadeSure plan start (s ∷ older) i =
@@ -82,6 +88,7 @@ abbrev pub IsRightRun : Bool → Task → List HostAnswer → Type 0
 IsRightRun true x more = IsRestored x (restorer_exchanges x more) (restorer_asks x more)
 IsRightRun false x more = IsDriven x (setter_exchanges x more) (setter_asks x more)
 
+-- each of many runs asked what is right
 abbrev pub AreRightRuns : PinPlan → List Session → Type 0
 AreRightRuns plan [] = Unit {0}
 AreRightRuns plan (s ∷ older) = IsRightRun s.way_back (session_task plan s) s.answers × AreRightRuns plan older

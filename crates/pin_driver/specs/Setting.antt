@@ -37,6 +37,7 @@ abbrev pub given_pin : Option PlannedChange → Option ℕ
 given_pin None = None
 given_pin (Some change) = change.after
 
+-- what a setter asks in a phase
 abbrev pub question_in : SetterPhase → Task → SetterState → Question
 question_in phases.Resting x s = questions.Wait REST_SECONDS
 question_in phases.Opening x s = questions.Cluster
@@ -69,6 +70,7 @@ begin_batch x s =
 abbrev pub passed : SetterState → SetterState
 passed s = record s { at = min s.mark.begun (s.at + 1); phase = phases.Checking }
 
+-- the answer says that there is no such directory
 abbrev pub is_gone : HostAnswer → Bool
 is_gone answers.Gone = true
 is_gone _ = false
@@ -103,6 +105,7 @@ advanced phases.Pausing x s a = record s { left = s.left - x.pace.poll_seconds; 
 advanced phases.Closing x s a = closed x s
 advanced (phases.Ended ending) x s a = s
 
+-- a setter after an answer, with what is wrong with it
 abbrev pub after_verdict : Option Trouble → Task → SetterState → HostAnswer → SetterState
 after_verdict (Some t) x s a = record s { phase = phases.Ended (Stopped t) }
 after_verdict None x s a = advanced s.phase x s a
@@ -123,6 +126,7 @@ setter_start x =
       phase = phases.Resting;
     }
 
+-- nothing more is asked in this phase
 abbrev pub has_ended : SetterPhase → Bool
 has_ended (phases.Ended ending) = true
 has_ended _ = false

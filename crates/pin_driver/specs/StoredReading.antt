@@ -39,6 +39,7 @@ abbrev pub next_digit : ℕ → ℕ → Option ℕ
 next_digit n c =
     if nat_le 48 c && (nat_le c 57 && nat_lt (n * 10 + (c - 48)) (2 ^ 64)) then Some (n * 10 + (c - 48)) else None
 
+-- the number of digits that follow those of n
 abbrev pub number_onto : ℕ → List ℕ → Option ℕ
 number_onto n [] = Some n
 number_onto n (c ∷ cs) = do
@@ -49,6 +50,7 @@ number_onto n (c ∷ cs) = do
 abbrev pub field_number : List ℕ → Option ℕ
 field_number field = number_onto 0 field
 
+-- the rank of a field
 abbrev pub field_rank : List ℕ → Option ℕ
 field_rank field = do
   n ← field_number field
@@ -58,6 +60,7 @@ field_rank field = do
 abbrev pub or_dash : (List ℕ → Option ℕ) → List ℕ → Option (Option ℕ)
 or_dash value field = if bytes_eq field (codes "-") then Some None else option_map (λ n. Some n) (value field)
 
+-- a digit up to this one
 abbrev pub is_octal_to : ℕ → ℕ → Bool
 is_octal_to most c = nat_le 48 c && nat_le c most
 
@@ -67,6 +70,7 @@ is_escape text =
     nat_le 4 (length text) && ((slice_index text 0 == 92) && (is_octal_to 51 (slice_index text 1)
     && (is_octal_to 55 (slice_index text 2) && is_octal_to 55 (slice_index text 3))))
 
+-- the byte that a backslash and three octal digits mean
 abbrev pub escape_value : List ℕ → Option ℕ
 escape_value text =
     if is_escape text
@@ -80,9 +84,11 @@ meant_bytes (suc n) (c ∷ cs) = meant_bytes n cs
 meant_bytes zero (c ∷ cs) =
     unwrap_or (escape_value (c ∷ cs)) c ∷ meant_bytes (if is_some (escape_value (c ∷ cs)) then 3 else 0) cs
 
+-- the bytes of a field; each field means some
 abbrev pub field_bytes : List ℕ → Option (List ℕ)
 field_bytes field = Some (meant_bytes 0 field)
 
+-- the change of a line
 unfoldable pub read_change : List ℕ → Option (PlannedChange × List ℕ)
 read_change text = do
   rest ← skip_word (codes "change") text
@@ -93,6 +99,7 @@ read_change text = do
   path ← read_field field_bytes inodes.1
   Some (record { path = path.0; inode = inode.0; before = before.0; after = after.0; inodes = inodes.0 }, path.1)
 
+-- the pin of a line
 unfoldable pub read_earlier : List ℕ → Option (EarlierPin × List ℕ)
 read_earlier text = do
   rest ← skip_word (codes "pin") text
@@ -121,6 +128,7 @@ read_count word text = do
   rest ← skip_word word text
   read_field field_number rest
 
+-- the mark of a line
 unfoldable pub read_mark : List ℕ → Option (Mark × List ℕ)
 read_mark text = do
   rest ← skip_word (codes "mark") text
@@ -128,16 +136,19 @@ read_mark text = do
   certain ← read_field field_number begun.1
   Some (record { begun = begun.0; certain = certain.0 }, certain.1)
 
+-- what names the plan, of a line
 unfoldable pub read_identity : List ℕ → Option (List ℕ × List ℕ)
 read_identity text = do
   rest ← skip_word (codes "plan") text
   read_field field_bytes rest
 
+-- the changes, with their number in front
 unfoldable pub read_changes : List ℕ → Option (List PlannedChange × List ℕ)
 read_changes text = do
   count ← read_count (codes "changes") text
   read_many read_change count.0 count.1
 
+-- the earlier pins, with their number in front
 unfoldable pub read_pins : List ℕ → Option (List EarlierPin × List ℕ)
 read_pins text = do
   count ← read_count (codes "pins") text
@@ -163,6 +174,7 @@ FailsAs Memory read = ⊤
 FailsAs (Version n) read = ⊥
 FailsAs Form read = read ≡ None
 
+-- the same of a function that returns what it found and the text after it
 abbrev pub FindsAs : {A B : Type 0} → (A → B) → Result (A × Bor (List ℕ)) TextError → Option (B × List ℕ) → Type 0
 FindsAs view (Ok found) read = read ≡ Some (view found.0, found.1.now)
 FindsAs view (Err error) read = FailsAs error read

@@ -24,6 +24,7 @@ is_kept c = nat_lt 32 c && (nat_lt c 127 && not (c == 92))
 abbrev pub kept_byte : ℕ → List ℕ
 kept_byte c = if is_kept c then c ∷ [] else 92 ∷ (48 + c / 64) ∷ (48 + c / 8 % 8) ∷ (48 + c % 8) ∷ []
 
+-- bytes, one after another
 abbrev pub kept_bytes : List ℕ → List ℕ
 kept_bytes bytes = flat_map kept_byte bytes
 
@@ -32,12 +33,14 @@ abbrev pub number_or_dash : Option ℕ → List ℕ
 number_or_dash None = codes "-"
 number_or_dash (Some n) = decimal n
 
+-- the line of a change: inode number, pin before and after, inodes, path
 abbrev pub change_text : PlannedChange → List ℕ
 change_text change =
     field_text (codes "change") ++ field_text (number_or_dash change.inode)
     ++ field_text (number_or_dash change.before) ++ field_text (number_or_dash change.after)
     ++ field_text (decimal change.inodes) ++ last_text (kept_bytes change.path)
 
+-- the line of an earlier pin: inode number, rank, path
 abbrev pub earlier_text : EarlierPin → List ℕ
 earlier_text pin =
     field_text (codes "pin") ++ field_text (number_or_dash pin.inode) ++ field_text (decimal pin.rank)
@@ -47,6 +50,7 @@ earlier_text pin =
 abbrev pub count_text : List ℕ → ℕ → List ℕ
 count_text word n = field_text word ++ last_text (decimal n)
 
+-- the line of a mark
 abbrev pub mark_text : Mark → List ℕ
 mark_text mark = field_text (codes "mark") ++ field_text (decimal mark.begun) ++ last_text (decimal mark.certain)
 
@@ -65,6 +69,7 @@ body_text plan mark =
 unfoldable pub stored_text : PlanParts → Mark → List ℕ
 stored_text plan mark = version_text 1 ++ body_text plan mark
 
+-- each number is a byte
 abbrev pub AreBytes : List ℕ → Type 0
 AreBytes bytes = All (λ c. c < 256) bytes
 
@@ -76,6 +81,7 @@ pub record FitsChange (change : PlannedChange) : Type 0 where
   pub after : IfSome change.after (λ n. n < 64)
   pub inodes : change.inodes < 2 ^ 64
 
+-- what the types of an earlier pin allow
 pub record FitsEarlier (pin : EarlierPin) : Type 0 where
   pub path : AreBytes pin.path
   pub inode : IfSome pin.inode (λ n. n < 2 ^ 64)

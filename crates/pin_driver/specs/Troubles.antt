@@ -39,6 +39,7 @@ cluster_trouble (Some first) now =
     else if not (are_warnings_of first.warnings.items now.warnings.items) then Some troubles.NewWarning
     else None
 
+-- both are the same pin, or none
 abbrev pub is_same_pin : Option ℕ → Option ℕ → Bool
 is_same_pin None None = true
 is_same_pin (Some a) (Some b) = a == b
@@ -62,17 +63,21 @@ unlike_change may_be_made (Some change) found =
     else if not (is_expected may_be_made change found.pin) then Some troubles.PinChanged
     else None
 
+-- what is wrong with the directory of the change at a place
 abbrev pub unlike_plan : Task → ℕ → FoundPin → Option Trouble
 unlike_plan x i found = unlike_change (nat_lt i x.first.begun) (slice_get x.plan.changes i) found
 
+-- what is wrong with the answer to a wait
 abbrev pub wait_trouble : HostAnswer → Option Trouble
 wait_trouble answers.Waited = None
 wait_trouble a = Some (misfit a)
 
+-- what is wrong with the answer to a question for the cluster, whose first state was this one
 abbrev pub state_trouble : Option ClusterState → HostAnswer → Option Trouble
 state_trouble first (answers.Cluster now) = cluster_trouble first now
 state_trouble first a = Some (misfit a)
 
+-- what is wrong with the answer to a store
 abbrev pub store_trouble : HostAnswer → Option Trouble
 store_trouble answers.Stored = None
 store_trouble a = Some (misfit a)
@@ -83,6 +88,7 @@ get_trouble judge (answers.Found found) = judge found
 get_trouble judge answers.Gone = None
 get_trouble judge a = Some (misfit a)
 
+-- what is wrong with the answer to a set; a directory that is gone is passed over
 abbrev pub set_trouble : HostAnswer → Option Trouble
 set_trouble answers.Done = None
 set_trouble answers.Gone = None
