@@ -29,7 +29,7 @@ use Rattle.pin_driver.specs.declared.task.TheConstants.{REST_SECONDS}
 use Rattle.pin_driver.proofs.Answers.{stored_answer, set_answer, cluster_answer, get_answer}
 use Rattle.pin_driver.proofs.Places.{ascends_above}
 use Rattle.pin_driver.proofs.KeptBack.{set_right, KeptBack, ToldBack, keeps_back, tells_back, told_back}
-use Rattle.pin_driver.proofs.Setting.{same_inode, same_pin, both, either, or_nothing, stays}
+use Rattle.pin_driver.proofs.Plain.{same_inode, same_pin, both, either, or_nothing, stays}
 
 -- a restorer that has not ended is where its exchanges leave it
 pub record LiveBack (x : Task) (s : RestorerState) (h : List Exchange) : Type 0 where
