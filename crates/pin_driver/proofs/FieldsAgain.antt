@@ -22,7 +22,8 @@ goes_on c = not (closes_field c)
 abbrev pub IsField : List ℕ → Type 0
 IsField field = list_all goes_on field ≡ true
 
-field_place : (field : List ℕ) (e : ℕ) (more : List ℕ) → IsField field → closes_field e ≡ true → position_or_len closes_field (field ++ e ∷ more) ≡ length field
+field_place : (field : List ℕ) (e : ℕ) (more : List ℕ) → IsField field → closes_field e ≡ true → position_or_len closes_field (field ++ e ∷ more) ≡
+    length field
 field_place [] e more f ends = rw ends refl
 field_place (c ∷ field) e more f ends =
     let parts = and_parts (goes_on c) (list_all goes_on field) f in
@@ -94,7 +95,8 @@ decimal_field n small = digits_field (decimal n) (decimal_is_IsNumeral n small).
 
 no_less : (n : ℕ) (ds : List ℕ) → n ≤ digits_value_after 10 n ds
 no_less n [] = omega arith
-no_less n (c ∷ ds) = let more : n * 10 + digit_value c ≤ digits_value_after 10 (n * 10 + digit_value c) ds = no_less (n * 10 + digit_value c) ds in omega (arith, more)
+no_less n (c ∷ ds) = let more : n * 10 + digit_value c ≤ digits_value_after 10 (n * 10 + digit_value c) ds = no_less (n * 10 + digit_value c) ds in
+    omega (arith, more)
 
 digits_again : (n : ℕ) (ds : List ℕ) → AllDigits 10 ds → digits_value_after 10 n ds < 2 ^ 64 → number_onto n ds ≡ Some (digits_value_after 10 n ds)
 digits_again n [] all small = refl
@@ -138,10 +140,12 @@ kept_goes_on c h = grind (arith, nat_tests)
 octal_goes_on : (d : ℕ) → d < 8 → goes_on (48 + d) ≡ true
 octal_goes_on d h = grind (arith, nat_tests)
 
-byte_field : (b : Bool) (c : ℕ) (rest : List ℕ) → is_kept c ≡ b → c < 256 → IsField rest → IsField (cond b (c ∷ []) (92 ∷ (48 + c / 64) ∷ (48 + c / 8 % 8) ∷ (48 + c % 8) ∷ []) ++ rest)
+byte_field : (b : Bool) (c : ℕ) (rest : List ℕ) → is_kept c ≡ b → c < 256 → IsField rest → IsField
+    (cond b (c ∷ []) (92 ∷ (48 + c / 64) ∷ (48 + c / 8 % 8) ∷ (48 + c % 8) ∷ []) ++ rest)
 byte_field true c rest e small f = and_from _ _ (kept_goes_on c e) f
 byte_field false c rest e small f =
-    and_from _ _ refl (and_from _ _ (octal_goes_on (c / 64) (omega (arith, small))) (and_from _ _ (octal_goes_on (c / 8 % 8) (omega arith)) (and_from _ _ (octal_goes_on (c % 8) (omega arith)) f)))
+    and_from _ _ refl (and_from _ _ (octal_goes_on (c / 64) (omega (arith, small)))
+    (and_from _ _ (octal_goes_on (c / 8 % 8) (omega arith)) (and_from _ _ (octal_goes_on (c % 8) (omega arith)) f)))
 
 kept_is_no_escape : (c : ℕ) → is_kept c ≡ true → (c == 92) ≡ false
 kept_is_no_escape c h = grind (arith, nat_tests)
@@ -168,7 +172,8 @@ escaped c rest small =
     let tests : is_escape (92 ∷ (48 + c / 64) ∷ (48 + c / 8 % 8) ∷ (48 + c % 8) ∷ rest) ≡ true =
     and_from _ _ (le-leb 4 (suc (suc (suc (suc (length rest))))) (omega arith))
     (and_from _ _ refl
-    (and_from _ _ (octal_to 51 (c / 64) (omega (arith, small))) (and_from _ _ (octal_to 55 (c / 8 % 8) (omega arith)) (octal_to 55 (c % 8) (omega arith))))) in
+    (and_from _ _ (octal_to 51 (c / 64) (omega (arith, small))) (and_from _ _ (octal_to 55 (c / 8 % 8) (omega arith))
+    (octal_to 55 (c % 8) (omega arith))))) in
     rw tests (ap Some (octal_sum c))
 
 first_byte : (c : ℕ) (path : List ℕ) → AreBytes (c ∷ path) → c < 256

@@ -105,7 +105,13 @@ sure_store x mark h kept right i lt = elim right.certain [
 same_text : (x : Task) (q : Question) (a : HostAnswer) (h : List Exchange) (mark : Mark) →
     IsTextOf x h mark → ((i : ℕ) → IsSetAt q i → i < mark.begun) → IsTextOf x (record { asked = q; answer = a } ∷ h) mark
 same_text x q a h mark text named =
-    record { sound = text.sound; grown = text.grown; ours = λ i w. elim w [ inl e ↦ named i e | inr was ↦ text.ours i was ]; sure = λ i lt. sure_more x q a h i (text.sure i lt) }
+    record {
+      sound = text.sound;
+      grown = text.grown;
+      ours = λ i w. elim w [ inl e ↦ named i e | inr was ↦ text.ours i was ];
+      sure = λ i lt. sure_more x
+          q a h i (text.sure i lt);
+    }
 
 -- a text that is stored names what the one before it names
 new_text : (x : Task) (mark : Mark) (a : HostAnswer) (h : List Exchange) → Kept x h → IsRightStore x mark h →

@@ -236,11 +236,13 @@ gets : (x : Task) (s : RestorerState) (h : List Exchange) (a : HostAnswer) → I
     IsBack x (restorer_advanced phases.Getting x s a) (next (questions.Get (s.left - 1)) a h)
 gets x s h a i none kept = elim (get_answer (any_directory (s.left - 1)) a none) [
   | inl gone ↦
-      let P : HostAnswer → Type 0 = λ b. KeptBack x (next (questions.Get (s.left - 1)) b h) → IsBack x (restorer_advanced phases.Getting x s b) (next (questions.Get (s.left - 1)) b h) in
+      let P : HostAnswer → Type 0 = λ b. KeptBack x (next (questions.Get (s.left - 1)) b h) → IsBack x (restorer_advanced phases.Getting x s b)
+      (next (questions.Get (s.left - 1)) b h) in
       subst P (sym gone)
       (λ k. passes x s h (next (questions.Get (s.left - 1)) answers.Gone h) i.0 i.1 i.2 k (or_nothing (first_cluster h)) refl refl) kept
   | inr found ↦
-      let P : HostAnswer → Type 0 = λ b. KeptBack x (next (questions.Get (s.left - 1)) b h) → IsBack x (restorer_advanced phases.Getting x s b) (next (questions.Get (s.left - 1)) b h) in
+      let P : HostAnswer → Type 0 = λ b. KeptBack x (next (questions.Get (s.left - 1)) b h) → IsBack x (restorer_advanced phases.Getting x s b)
+      (next (questions.Get (s.left - 1)) b h) in
       subst P (sym found.1) (λ k. found_one (restorable_at x (s.left - 1) found.0) x s h found.0 refl i k) kept
 ]
 

@@ -252,8 +252,24 @@ notes x s h a i none kept = (
 pub checks : (x : Task) (s : SetterState) (h : List Exchange) (a : HostAnswer) → InPhase phases.Checking x s h →
     Kept x (next questions.Cluster a h) → Is x (advanced phases.Checking x s a) (next questions.Cluster a h)
 checks x s h a i kept = elim (cases_lt s.at s.mark.begun) [
-  | inl lt ↦ rw (lt-ltb s.at s.mark.begun lt) (same phases.Getting, record { noted = record { known = i.1.known; stored = i.1.stored; looking = i.1.looking }; more = lt; cluster = refl })
-  | inr le ↦ rw (le-ltb s.at s.mark.begun le) (same phases.Looking, record { noted = record { known = i.1.known; stored = i.1.stored; looking = i.1.looking }; all = omega (arith, i.0.at) }, refl)
+  | inl lt ↦ rw (lt-ltb s.at s.mark.begun lt) (
+    same phases.Getting,
+    record {
+      noted = record
+          { known = i.1.known; stored = i.1.stored; looking = i.1.looking };
+      more = lt;
+      cluster = refl;
+    },
+  )
+  | inr le ↦ rw (le-ltb s.at s.mark.begun le) (
+    same phases.Looking,
+    record {
+      noted = record
+          { known = i.1.known; stored = i.1.stored; looking = i.1.looking };
+      all = omega (arith, i.0.at);
+    },
+    refl,
+  )
 ]
   where
     same : (p : SetterPhase) → Live x (record s { phase = p }) (next questions.Cluster a h)
@@ -295,7 +311,8 @@ pub gets : (x : Task) (s : SetterState) (h : List Exchange) (a : HostAnswer) →
 gets x s h a i none kept = elim (get_answer (unlike_plan x s.at) a none) [
   | inl gone ↦
       let P : HostAnswer → Type 0 = λ b. Kept x (next (questions.Get s.at) b h) → Is x (advanced phases.Getting x s b) (next (questions.Get s.at) b h) in
-      subst P (sym gone) (λ k. passes x s h (next (questions.Get s.at) answers.Gone h) i.0 i.1.noted i.1.more k (or_nothing (first_cluster h)) refl (i.0.fresh i.1.more) refl refl) kept
+      subst P (sym gone) (λ k. passes x s h (next (questions.Get s.at) answers.Gone h) i.0 i.1.noted i.1.more k (or_nothing (first_cluster h)) refl
+      (i.0.fresh i.1.more) refl refl) kept
   | inr found ↦
       let P : HostAnswer → Type 0 = λ b. Kept x (next (questions.Get s.at) b h) → Is x (advanced phases.Getting x s b) (next (questions.Get s.at) b h) in
       let plan : (c : PlannedChange) × (slice_get x.plan.changes s.at ≡ Some c) × IsAsPlanned x s.at c found.0 =

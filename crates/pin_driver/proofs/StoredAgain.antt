@@ -50,11 +50,18 @@ change_again change more fits =
     let before : List ℕ = field_text (number_or_dash change.before) in
     let after : List ℕ = field_text (number_or_dash change.after) in
     ap read_change (six (field_text (codes "change")) (field_text (number_or_dash change.inode)) before after inodes path more)
-    ∙ change_from _ _ _ _ _ _ _ _ _ _ _ _ (word_next (codes "change") (field_text (number_or_dash change.inode) ++ (before ++ (after ++ (inodes ++ (path ++ more))))) refl)
-    (value_next (or_dash field_number) change.inode (number_or_dash change.inode) (before ++ (after ++ (inodes ++ (path ++ more)))) (dash_field change.inode fits.inode) (dash_again field_number change.inode fits.inode (small_number change.inode fits.inode)))
-    (value_next (or_dash field_rank) change.before (number_or_dash change.before) (after ++ (inodes ++ (path ++ more))) (dash_field change.before (wide_rank change.before fits.before)) (dash_again field_rank change.before (wide_rank change.before fits.before) (small_rank change.before fits.before)))
-    (value_next (or_dash field_rank) change.after (number_or_dash change.after) (inodes ++ (path ++ more)) (dash_field change.after (wide_rank change.after fits.after)) (dash_again field_rank change.after (wide_rank change.after fits.after) (small_rank change.after fits.after)))
-    (value_next field_number change.inodes (decimal change.inodes) (path ++ more) (decimal_field change.inodes fits.inodes) (number_again change.inodes fits.inodes))
+    ∙ change_from _ _ _ _ _ _ _ _ _ _ _ _ (word_next (codes "change") (field_text (number_or_dash change.inode) ++
+    (before ++ (after ++ (inodes ++ (path ++ more))))) refl)
+    (value_next (or_dash field_number) change.inode (number_or_dash change.inode) (before ++ (after ++ (inodes ++ (path ++ more))))
+    (dash_field change.inode fits.inode) (dash_again field_number change.inode fits.inode (small_number change.inode fits.inode)))
+    (value_next (or_dash field_rank) change.before (number_or_dash change.before) (after ++ (inodes ++ (path ++ more)))
+    (dash_field change.before (wide_rank change.before fits.before)) (dash_again field_rank change.before (wide_rank change.before fits.before)
+    (small_rank change.before fits.before)))
+    (value_next (or_dash field_rank) change.after (number_or_dash change.after) (inodes ++ (path ++ more))
+    (dash_field change.after (wide_rank change.after fits.after)) (dash_again field_rank change.after (wide_rank change.after fits.after)
+    (small_rank change.after fits.after)))
+    (value_next field_number change.inodes (decimal change.inodes) (path ++ more) (decimal_field change.inodes fits.inodes)
+    (number_again change.inodes fits.inodes))
     (value_last field_bytes change.path (kept_bytes change.path) more (bytes_field change.path fits.path) (bytes_again change.path fits.path))
 
 earlier_from : (text w i r p : List ℕ) (inode : Option ℕ) (rank : ℕ) (path : List ℕ) → skip_word (codes "pin") text ≡ Some w →
@@ -72,7 +79,8 @@ earlier_again pin more fits =
     let path : List ℕ = last_text (kept_bytes pin.path) in
     ap read_earlier (four (field_text (codes "pin")) (field_text (number_or_dash pin.inode)) rank path more)
     ∙ earlier_from _ _ _ _ _ _ _ _ (word_next (codes "pin") (field_text (number_or_dash pin.inode) ++ (rank ++ (path ++ more))) refl)
-    (value_next (or_dash field_number) pin.inode (number_or_dash pin.inode) (rank ++ (path ++ more)) (dash_field pin.inode fits.inode) (dash_again field_number pin.inode fits.inode (small_number pin.inode fits.inode)))
+    (value_next (or_dash field_number) pin.inode (number_or_dash pin.inode) (rank ++ (path ++ more)) (dash_field pin.inode fits.inode)
+    (dash_again field_number pin.inode fits.inode (small_number pin.inode fits.inode)))
     (value_next field_rank pin.rank (decimal pin.rank) (path ++ more) (decimal_field pin.rank (omega (arith, fits.rank))) (rank_again pin.rank fits.rank))
     (value_last field_bytes pin.path (kept_bytes pin.path) more (bytes_field pin.path fits.path) (bytes_again pin.path fits.path))
 
@@ -87,11 +95,13 @@ many_again {A} fits text_of one again (x ∷ xs) more all =
     (then_reads (read_many one (length xs) (flat_map text_of xs ++ more)) (xs, more) _ (Some (x ∷ xs, more))
     (many_again fits text_of one again xs more (All-tail fits x xs all)) refl)
 
-count_from : (word text w more : List ℕ) (n : ℕ) → skip_word word text ≡ Some w → read_field field_number w ≡ Some (n, more) → read_count word text ≡ Some (n, more)
+count_from : (word text w more : List ℕ) (n : ℕ) → skip_word word text ≡ Some w → read_field field_number w ≡ Some (n, more) → read_count word text ≡
+    Some (n, more)
 unfolding read_count
 count_from word text w more n hw hn = rw (hw, hn) refl
 
-pub count_again : (word : List ℕ) (n : ℕ) (more : List ℕ) → skip_word word (field_text word ++ (last_text (decimal n) ++ more)) ≡ Some (last_text (decimal n) ++ more) →
+pub count_again : (word : List ℕ) (n : ℕ) (more : List ℕ) → skip_word word (field_text word ++ (last_text (decimal n) ++ more)) ≡ Some
+    (last_text (decimal n) ++ more) →
     n < 2 ^ 64 → read_count word (count_text word n ++ more) ≡ Some (n, more)
 count_again word n more skip small =
     ap (read_count word) (append_assoc (field_text word) (last_text (decimal n)) more)
@@ -132,7 +142,8 @@ mark_again : (mark : Mark) (more : List ℕ) → mark.begun < 2 ^ 64 → mark.ce
 mark_again mark more begun certain =
     ap read_mark (three (field_text (codes "mark")) (field_text (decimal mark.begun)) (last_text (decimal mark.certain)) more)
     ∙ mark_from _ _ _ _ _ _ (word_next (codes "mark") (field_text (decimal mark.begun) ++ (last_text (decimal mark.certain) ++ more)) refl)
-    (value_next field_number mark.begun (decimal mark.begun) (last_text (decimal mark.certain) ++ more) (decimal_field mark.begun begun) (number_again mark.begun begun))
+    (value_next field_number mark.begun (decimal mark.begun) (last_text (decimal mark.certain) ++ more) (decimal_field mark.begun begun)
+    (number_again mark.begun begun))
     (value_last field_number mark.certain (decimal mark.certain) more (decimal_field mark.certain certain) (number_again mark.certain certain))
 
 identity_from : (text w more identity : List ℕ) → skip_word (codes "plan") text ≡ Some w → read_field field_bytes w ≡ Some (identity, more) →
@@ -163,7 +174,8 @@ body_again plan mark fits =
     let end : List ℕ = last_text (codes "end") ++ [] in
     let pins : List ℕ = count_text (codes "pins") (length plan.earlier) ++ (flat_map earlier_text plan.earlier ++ end) in
     let changes : List ℕ = count_text (codes "changes") (length plan.changes) ++ (flat_map change_text plan.changes ++ pins) in
-    ap read_body (eight (field_text (codes "plan")) identity (mark_text mark) (count_text (codes "changes") (length plan.changes)) (flat_map change_text plan.changes) (count_text (codes "pins") (length plan.earlier)) (flat_map earlier_text plan.earlier) (last_text (codes "end")))
+    ap read_body (eight (field_text (codes "plan")) identity (mark_text mark) (count_text (codes "changes") (length plan.changes))
+    (flat_map change_text plan.changes) (count_text (codes "pins") (length plan.earlier)) (flat_map earlier_text plan.earlier) (last_text (codes "end")))
     ∙ body_from _ _ _ _ _ _ plan.identity mark plan.changes plan.earlier (identity_again plan.identity (mark_text mark ++ changes) fits.identity)
     (mark_again mark changes fits.begun fits.certain) (changes_again plan.changes pins fits.change_count fits.changes)
     (pins_again plan.earlier end fits.earlier_count fits.earlier) (word_last (codes "end") [] refl)

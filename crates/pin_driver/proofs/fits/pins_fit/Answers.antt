@@ -6,7 +6,8 @@ use Rattle.pin_driver.proofs.fits.pins_fit.Goals as goal
 
 pub loop-pin-preserved : goal.loop-pin-preserved
 loop-pin-preserved c =
-    all_next FitsEarlier c.args.pins.now c.loop-pin.pin-index c.pin-item.result (omega arith) c.loop-pin.invariant (subst FitsEarlier c.pin-item.is c.earlier_fits.ensures)
+    all_next FitsEarlier c.args.pins.now c.loop-pin.pin-index c.pin-item.result (omega arith) c.loop-pin.invariant
+    (subst FitsEarlier c.pin-item.is c.earlier_fits.ensures)
 
 pub returns-clause-all : goal.returns-clause-all
 returns-clause-all c =

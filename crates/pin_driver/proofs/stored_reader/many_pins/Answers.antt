@@ -12,5 +12,6 @@ returns-in-Err c =
 pub loop-preserved : goal.loop-preserved
 loop-preserved c =
     ap (λ items. after_those items (read_many read_earlier (c.args.count - (c.loop.counter + 1)) c.in-Ok.found.1.now)) c.in_ok-push-in-Ok.ensures.items
-    ∙ (sym (many_next read_earlier c.loop.pins.items c.in-Ok.found.0 (c.args.count - c.loop.counter) (c.args.count - (c.loop.counter + 1)) c.loop.rest.now c.in-Ok.found.1.now (omega arith) c.in-Ok.ensures)
+    ∙ (sym (many_next read_earlier c.loop.pins.items c.in-Ok.found.0 (c.args.count - c.loop.counter) (c.args.count - (c.loop.counter + 1))
+    c.loop.rest.now c.in-Ok.found.1.now (omega arith) c.in-Ok.ensures)
     ∙ c.loop.invariant)
