@@ -1,0 +1,14 @@
+-- What holds of each item of a list.
+use Rattle.std.proofs.Common.{◌≡◌, ℕ, zero, suc, ◌+◌, ◌<◌, List, [], ◌∷◌, All, length, take, get_or, add-one, arith, refl}
+use Rattle.std.proofs.Math.Seq.{take-suc}
+use Rattle.std.proofs.lemmas.List.Elements.{All-append, All-cons, All-nil}
+
+pub all_next : {A : Type 0} (P : A → Type 0) (xs : List A) (i : ℕ) (d : A) → i < length xs → All P (take i xs) → P (get_or xs i d) → All P (take (i + 1) xs)
+all_next P xs i d h front one = rw (add-one, take-suc xs i d) (All-append P (take i xs) (get_or xs i d ∷ []) front
+    (All-cons P (get_or xs i d) [] one (All-nil P)))
+
+-- inside a list no default counts
+pub same_item : (xs : List ℕ) (k d e : ℕ) → k < length xs → get_or xs k d ≡ get_or xs k e
+same_item [] k d e lt = absurd (omega arith)
+same_item (x ∷ xs) zero d e lt = refl
+same_item (x ∷ xs) (suc k) d e lt = same_item xs k d e (omega arith)

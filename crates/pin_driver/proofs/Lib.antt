@@ -1,0 +1,15 @@
+pub mod Answers
+pub mod FieldsAgain
+pub mod Items
+pub mod Kept
+pub mod KeptBack
+pub mod Many
+pub mod Parsing
+pub mod Places
+pub mod Plain
+pub mod Restoring
+pub mod Sessions
+pub mod SetterSteps
+pub mod Setting
+pub mod StoredAgain
+pub mod Texts

@@ -1,0 +1,13 @@
+pub mod Driven
+pub mod Exchanges
+pub mod Notes
+pub mod PinPlan
+pub mod Restored
+pub mod RestorerParts
+pub mod Restoring
+pub mod Sessions
+pub mod SetterParts
+pub mod Setting
+pub mod StoredReading
+pub mod StoredText
+pub mod Troubles
