@@ -8,15 +8,15 @@ use Rattle.std.proofs.lemmas.Bool.{cases_eq, eq-eqb, eqb-true}
 use Rattle.std.proofs.lemmas.List.{append-nil, append_cancel_left}
 use Rattle.std.proofs.lemmas.Option.{slice_get-map, slice_get_within}
 use Rattle.ceph_dumps.specs.PathList.{path_bytes}
-use Rattle.ceph_pins.specs.Left.{IsIn, IsLeft, IsLeftBy}
+use Rattle.ceph_pins.specs.Left.{LiesIn, IsLeft, IsLeftBy}
 
 -- what comes after it is nothing, or begins with a slash
 pub in_if_slash : (above path rest : List ℕ) → path ≡ above ++ rest → 1 ≤ length rest
-    → (IsTrue (nat_eq (slice_index_or rest 0 0) 47) → IsIn above path) × (IsIn above path → IsTrue (nat_eq (slice_index_or rest 0 0) 47))
+    → (IsTrue (nat_eq (slice_index_or rest 0 0) 47) → LiesIn above path) × (LiesIn above path → IsTrue (nat_eq (slice_index_or rest 0 0) 47))
 in_if_slash above path [] is some = absurd (omega (arith, some))
 in_if_slash above path (c ∷ rest) is some = (
   λ slash. inr (rest, is ∙ ap (λ (b : ℕ). above ++ b ∷ rest) (eqb-true c 47 slash)),
-  λ (lies : IsIn above path).
+  λ (lies : LiesIn above path).
       ⊎_elim
       (λ (same : path ≡ above).
       let none : c ∷ rest ≡ [] = append_cancel_left above (c ∷ rest) [] (sym is ∙ (same ∙ sym (append-nil above))) in
@@ -28,7 +28,7 @@ in_if_slash above path (c ∷ rest) is some = (
 )
 
 -- it does not begin so
-pub not_in : (above path : List ℕ) → ((rest : List ℕ) → path ≢ above ++ rest) → ¬ IsIn above path
+pub not_in : (above path : List ℕ) → ((rest : List ℕ) → path ≢ above ++ rest) → ¬ LiesIn above path
 not_in above path never lies =
     ⊎_elim (λ (same : path ≡ above). never [] (same ∙ sym (append-nil above)))
     (λ (below : (other : List ℕ) × (path ≡ above ++ 47 ∷ other)). never (47 ∷ below.0) below.1) lies

@@ -41,7 +41,8 @@ pub fn own_pins(
     directories: &[Directory],
     leave: &[Vec<u8>],
 ) -> Result<Vec<OwnPins>, AllocError>
-    ensures { IfOk result (λ own. AreOwnPins directories.now (path_bytes leave.now) (length directories.now) own.items) }
+    ensures { IfOk result (λ own. AreOwnPins directories.now (path_bytes leave.now) (length directories.now)
+        own.items) }
 {
     let mut own = Vec::with_capacity(alloc, directories.len())?;
     for at in 0..directories.len() {

@@ -1,7 +1,7 @@
 //! Directories that are to be left where they are: those of a list, and those below and above them.
 ghost use Rattle.std.specs.Prelude.{◌≡◌, ◌≢◌, ◌↔◌, ◌++◌, ℕ, IsTrue, List, MatchOption};
 ghost use Rattle.ceph_dumps.specs.PathList.{path_bytes};
-ghost use Rattle.ceph_pins.specs.Left.{IsIn, IsLeft, IsLeftBy};
+ghost use Rattle.ceph_pins.specs.Left.{LiesIn, IsLeft, IsLeftBy};
 
 /// What comes after this front of a text, if it begins with that.
 fn after<'a>(text: &'a [u8], front: &[u8]) -> Option<&'a [u8]>
@@ -13,7 +13,7 @@ fn after<'a>(text: &'a [u8], front: &[u8]) -> Option<&'a [u8]>
 
 /// Whether a path is this one, or one below it.
 fn is_in(above: &[u8], path: &[u8]) -> bool
-    ensures { IsTrue result ↔ IsIn above.now path.now }
+    ensures { IsTrue result ↔ LiesIn above.now path.now }
 {
     match after(path, above) {
         Some([]) => true,

@@ -30,8 +30,8 @@ abbrev pub AreLeft : List ProblemRow → List OwnPins → List ℕ → List ℕ 
 AreLeft rows own part rank n =
     (i : ℕ) → i < n → (own_at own i).is_left ≡ true → packed_rank rank part i ≡ problem.now_at rows i
 
--- a plan of these rows with what it costs: what is asked of each row, how many pins of ours put the rows there, the heat
--- that moves, and whether all that is to be left is
+-- a plan of these rows with what it costs: what is asked of each row, how many pins of ours put the rows there, the
+-- heat that moves, and whether all that is to be left is
 pub record IsCandidate (ranks : ℕ) (pinned : List ℕ) (rows : List ProblemRow) (own : List OwnPins) (rests : Bool)
     (one : Candidate) : Type 0 where
   pub placed : IsPlacement ranks pinned rows one.plan

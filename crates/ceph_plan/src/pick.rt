@@ -1,5 +1,5 @@
-//! Which of several plans is taken: of those that are cool enough, have few enough pins, and keep within what is wanted,
-//! one that moves the fewest inodes, and of these the least heat.
+//! Which of several plans is taken: of those that are cool enough, have few enough pins, and keep within what is
+//! wanted, one that moves the fewest inodes, and of these the least heat.
 ghost use Rattle.std.specs.Prelude.{◌≡◌, ◌<◌, ◌≤◌, ◌⊎◌, ◌↔◌, ℕ, IsTrue, length};
 ghost use Rattle.ceph_plan.specs.Candidates.{HasFewPins, IsAllowed, IsCheaperAt, IsPicked, greatest_at};
 
@@ -54,8 +54,8 @@ fn is_before(candidates: &[Candidate], at: usize, best: usize) -> bool
     best == candidates.len() || is_cheaper(candidates, at, best)
 }
 
-/// The place of the first of the cheapest plans that are within the limit and may be taken; how many plans there are, if
-/// none is.
+/// The place of the first of the cheapest plans that are within the limit and may be taken; how many plans there are,
+/// if none is.
 fn cheapest(candidates: &[Candidate], wanted: Wanted, limit: u128) -> usize
     ensures within { result < length candidates.now → greatest_at candidates.now result ≤ limit }
     ensures few { result < length candidates.now → IsAllowed wanted candidates.now result }

@@ -45,8 +45,8 @@ pub record IsProposalOf (directories : List Directory) (holds : List Held) (pinn
   pub own_pins : AreOwnPins directories leave (length directories) own
   pub proposed : IsProposal ranks pinned rows wanted own proposal
 
--- what is decided for directories, with this heat by rank of what is spread, where those of a list are to be left. No pin
--- changes where somebody else set one, where a directory is spread, and where it may not be pinned
+-- what is decided for directories, with this heat by rank of what is spread, where those of a list are to be left. No
+-- pin changes where somebody else set one, where a directory is spread, and where it may not be pinned
 pub record IsDecision (directories : List Directory) (spread : List ℕ) (leave : List (List ℕ)) (ranks : ℕ)
     (wanted : Wanted) (decision : Decision) : Type 0 where
   pub size : length decision.holds.items ≡ length directories

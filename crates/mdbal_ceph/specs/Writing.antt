@@ -115,8 +115,9 @@ pub record IsTold (outcome : Outcome) (is_json is_proposed is_idle : Bool) (text
       (inverted outcome.decision.proposal.rows.items (proposed_changes outcome is_proposed)) is_proposed
       else report facts is_proposed)
 
--- the plan is proposed exactly where it comes to what is asked for, and keeps within what is wanted; the report, or JSON, is that of the outcome; and
--- the files of the pins are there where they are asked for, with the changes that are proposed
+-- the plan is proposed exactly where it comes to what is asked for, and keeps within what is wanted; the report, or
+-- JSON, is that of the outcome; and the files of the pins are there where they are asked for, with the changes that are
+-- proposed
 pub record IsWritten (settings : PlanSettings) (outcome : Outcome) (output : PlanOutput) : Type 0 where
   pub proposed : IsTrue output.is_proposed
       ↔ (IsWorthMoving (gain_of outcome) (least_for settings.least outcome.ranks)

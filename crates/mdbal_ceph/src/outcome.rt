@@ -98,7 +98,7 @@ fn wanted_by(settings: &PlanSettings, balances: bool) -> Wanted
     }
 }
 
-/// Plans directories for these ranks, where `spread[r]` is the heat at rank r of what is spread, and leaves some of them.
+/// Plans directories for these ranks. `spread[r]` is the heat at rank r of what is spread. What is in `leave` is left.
 fn decided(
     alloc: Global,
     wanted: Wanted,

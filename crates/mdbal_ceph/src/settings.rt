@@ -4,8 +4,8 @@ ghost use Rattle.std.specs.Option.{option_map};
 ghost use Rattle.clap.specs.Words.{app_of, first_of, found_of, rows_of, rule_of, with_rule};
 ghost use Rattle.mdbal_ceph.specs.CommandLine.{AreSettings, folder_rule, mdbal_ceph, option_rule};
 ghost use Rattle.mdbal_ceph.specs.CommandLine.{option_rules, plan_command, with_options};
-ghost use Rattle.mdbal_ceph.specs.Options.{AreRead, IsFlag, heat_named, inodes_named, least_named, mask_named, option_number};
-ghost use Rattle.mdbal_ceph.specs.Options.{parts_named, value_or};
+ghost use Rattle.mdbal_ceph.specs.Options.{AreRead, IsFlag, heat_named, inodes_named, least_named, mask_named};
+ghost use Rattle.mdbal_ceph.specs.Options.{option_number, parts_named, value_or};
 
 use crate::input::mask_named;
 use ceph_plan::PartCount;
