@@ -8,7 +8,7 @@ use std::alloc::Global;
 use std::process::Abort;
 
 /// Each answer that is tried to each question.
-const SAYINGS: &[Say] = &[
+pub(crate) const SAYINGS: &[Say] = &[
     Say::Waited,
     Say::Same,
     Say::NewWarning,
@@ -30,9 +30,9 @@ const SAYINGS: &[Say] = &[
 
 /// A question, and the answer to it.
 #[derive(Clone, Copy, Debug)]
-struct Exchange {
-    asked: Question,
-    said: Say,
+pub(crate) struct Exchange {
+    pub(crate) asked: Question,
+    pub(crate) said: Say,
 }
 
 /// What a judge knows of the exchanges so far.
@@ -190,7 +190,7 @@ fn run<R: Abort>(rt: &R, alloc: Global, first: Mark, numbers: &mut Vec<usize>) {
 }
 
 /// The next numbers, in order. Whether there are some.
-fn advance<R: Abort>(rt: &R, numbers: &mut Vec<usize>) -> bool {
+pub(crate) fn advance<R: Abort>(rt: &R, numbers: &mut Vec<usize>) -> bool {
     for _ in 0..numbers.len() {
         match numbers.pop() {
             Some(last) if last < SAYINGS.len() - 1 => {

@@ -6,6 +6,8 @@ mod given;
 #[cfg(test)]
 mod judged;
 #[cfg(test)]
+mod judged_back;
+#[cfg(test)]
 mod same;
 #[cfg(test)]
 mod scripts;
