@@ -49,6 +49,14 @@ abbrev pub brought_at : Brought → List Directory → List Held → List PinRow
 brought_at what directories holds rows leaders i =
     min most_heat (brought_by what directories holds rows leaders (length rows) i)
 
+-- the inodes that the pin of each directory brings
+pub record AreBrought (directories : List Directory) (holds : List Held) (rows : List PinRow) (changes : List PinChange)
+    (inodes : List ℕ) : Type 0 where
+  pub leaders : List ℕ
+  pub led : AreLeaders (parent_at rows) (is_pinned_after rows changes) (length rows) leaders
+  pub size : length inodes ≡ length rows
+  pub each : (i : ℕ) → i < length rows → slice_index inodes i ≡ brought_at Inodes directories holds rows leaders i
+
 -- the move of a pin that brings inodes
 abbrev pub pin_move : Option ℕ → ℕ → ℕ → ℕ → Option Move
 pin_move None inodes heat i = None

@@ -21,7 +21,7 @@ pub use check::{PinCheck, check_pins};
 pub use facts::{Facts, HottestDirectory, hottest, hottest_of};
 pub use json::make_json;
 pub use mdbal_script::make_script;
-pub use moves::{Move, Sums, goals_of, moves_of, sums_of};
+pub use moves::{Move, Sums, goals_of, inodes_brought, moves_of, sums_of};
 pub use picture::make_picture;
 pub use report::make_report;
 pub use roots::{Roots, roots_of};

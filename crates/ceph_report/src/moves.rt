@@ -7,8 +7,8 @@ ghost use Rattle.ceph_snapshot.specs.Rows.{is_free};
 ghost use Rattle.ceph_snapshot.specs.Holding.{most_heat};
 ghost use Rattle.ceph_report.specs.Amounts.{AreAmounts, cold_inodes, goal_at, goal_of, going_of, heat_going, heat_now};
 ghost use Rattle.ceph_report.specs.Amounts.{inodes_from, inodes_to};
-ghost use Rattle.ceph_report.specs.Moves.{AreLeaders, AreMoves, brought_at, leader_of, leaving_at, moves_below};
-ghost use Rattle.ceph_report.specs.Moves.{pin_move};
+ghost use Rattle.ceph_report.specs.Moves.{AreBrought, AreLeaders, AreMoves, brought_at, leader_of, leaving_at};
+ghost use Rattle.ceph_report.specs.Moves.{moves_below, pin_move};
 
 use ceph_pins::pins_after;
 use ceph_plan::{PinChange, PinRow};
@@ -339,6 +339,22 @@ fn gathered(
         }
     }
     Ok(moves)
+}
+
+/// The inodes that the pin of each directory brings to its rank once the changes are made, at the directory's place.
+pub fn inodes_brought(
+    alloc: Global,
+    directories: &[Directory],
+    holds: &[Held],
+    rows: &[PinRow],
+    changes: &[PinChange],
+) -> Result<Vec<u64>, AllocError>
+    ensures { IfOk result (λ inodes. AreBrought directories.now holds.now rows.now changes.now inodes.items) }
+{
+    let pins = pins_after(alloc, rows, changes)?;
+    let leaders = leaders(alloc, rows, &pins)?;
+    let inodes = brought_sums(alloc, Brought::Inodes, directories, holds, rows, &leaders)?;
+    Ok(inodes)
 }
 
 /// What each pin of this program brings to its rank once the changes are made, the most inodes first. Pins that bring

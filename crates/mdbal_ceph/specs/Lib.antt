@@ -1,5 +1,6 @@
 pub mod Collections
 pub mod CommandLine
+pub mod DriverPlan
 pub mod Named
 pub mod Options
 pub mod Outcomes

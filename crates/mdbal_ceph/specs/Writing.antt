@@ -1,5 +1,5 @@
 -- What is written of a plan.
-use Rattle.std.specs.Prelude.{◌≡◌, ◌↔◌, ◌*◌, ℕ, Bool, List, [], length, nat_lt, string_bytes}
+use Rattle.std.specs.Prelude.{◌≡◌, ◌↔◌, ◌*◌, ◌++◌, ◌∷◌, ℕ, Bool, List, [], length, nat_lt, string_bytes}
 use Rattle.std.specs.Prelude.{IfSome, IsTrue, is_some, option_copied, if◌then◌else◌}
 use Rattle.std.specs.Option.{unwrap_or}
 use Rattle.mds_types.specs.RankSet.{rank_count}
@@ -8,12 +8,13 @@ use Rattle.ceph_plan.specs.declared.row.PinChange.{PinChange}
 use Rattle.ceph_plan.specs.Worth.{IsWorthMoving}
 use Rattle.ceph_plan.specs.declared.worth.Gain.{Gain}
 use Rattle.ceph_plan.specs.declared.worth.LeastGain.{LeastGain}
+use Rattle.ceph_dumps.specs.declared.file_system.FileSystem.{FileSystem}
 use Rattle.ceph_pins.specs.Back.{inverted}
 use Rattle.ceph_pins.specs.OwnList.{own_list}
 use Rattle.ceph_pins.specs.PinsScript.{pins_script}
 use Rattle.ceph_pins.specs.Standing.{is_standing}
 use Rattle.ceph_report.specs.Json.{json}
-use Rattle.ceph_report.specs.Moves.{AreMoves}
+use Rattle.ceph_report.specs.Moves.{AreBrought, AreMoves}
 use Rattle.ceph_report.specs.Report.{report}
 use Rattle.ceph_report.specs.Roots.{AreRoots}
 use Rattle.ceph_report.specs.Staying.{AreStays}
@@ -23,6 +24,9 @@ use Rattle.mdbal_ceph.specs.declared.outcome.Outcome.{Outcome}
 use Rattle.mdbal_ceph.specs.declared.settings.Least.{Least}
 use Rattle.mdbal_ceph.specs.declared.settings.PlanSettings.{PlanSettings}
 use Rattle.mdbal_ceph.specs.declared.writing.TheConstants.{IDLE_HEAT}
+use Rattle.pin_driver.specs.StoredText.{stored_text}
+use Rattle.pin_driver.specs.Restoring.{no_mark}
+use Rattle.mdbal_ceph.specs.DriverPlan.{driver_plan}
 use Rattle.mdbal_ceph.specs.declared.writing.PinFiles.{PinFiles}
 use Rattle.mdbal_ceph.specs.declared.writing.PlanOutput.{PlanOutput}
 
@@ -63,12 +67,29 @@ script_of settings outcome changes =
     pins_script settings.mount.now (string_bytes outcome.file_system.name) (string_bytes outcome.file_system.fsid)
     settings.subvolumes outcome.directories.items changes
 
--- the script of the changes, the one that undoes them, and the pins of this program once the first has run
+-- what names a plan: the name of the file system and the cluster's number
+abbrev pub identity_of : FileSystem → List ℕ
+identity_of file_system = string_bytes file_system.name ++ 32 ∷ string_bytes file_system.fsid
+
+-- the changes as the driver of pins reads them, each with the inodes that it brings, where nothing is done yet
+pub record IsDriverText (outcome : Outcome) (changes : List PinChange) (text : List ℕ) : Type 0 where
+  pub inodes : List ℕ
+  pub brought : AreBrought outcome.directories.items outcome.decision.holds.items
+      outcome.decision.proposal.rows.items changes inodes
+  pub is : text
+      ≡ stored_text
+      (driver_plan (identity_of outcome.file_system) outcome.directories.items outcome.decision.proposal.rows.items
+      inodes changes)
+      no_mark
+
+-- the script of the changes, the one that undoes them, the pins of this program once the first has run, and the text
+-- for the driver of pins
 pub record ArePinFiles
     (settings : PlanSettings) (outcome : Outcome) (changes : List PinChange) (files : PinFiles) : Type 0 where
   pub script : files.script.items ≡ script_of settings outcome changes
   pub back : files.back.items ≡ script_of settings outcome (inverted outcome.decision.proposal.rows.items changes)
   pub own : files.own.items ≡ own_list outcome.directories.items outcome.decision.proposal.rows.items changes
+  pub plan : IsDriverText outcome changes files.plan.items
 
 -- the facts of the report are those of the outcome
 pub record AreFacts (outcome : Outcome) (is_idle : Bool) (count : ℕ) (facts : Facts) : Type 0 where

@@ -23,6 +23,8 @@ fn write_file<R: Files>(rt: &R, file: &str, content: &[u8]) -> Result<(), Error>
 fn write_pins<R: Files + AllocGlobal>(rt: &R, file: &str, pins: &PinFiles) -> Result<(), Error> {
     let own = format!(in rt.alloc(); "{file}.own")?;
     write_file(rt, own.as_str(), &pins.own)?;
+    let plan = format!(in rt.alloc(); "{file}.plan")?;
+    write_file(rt, plan.as_str(), &pins.plan)?;
     let back = format!(in rt.alloc(); "{file}.back")?;
     write_file(rt, back.as_str(), &pins.back)?;
     write_file(rt, file, &pins.script)

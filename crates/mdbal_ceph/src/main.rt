@@ -2,6 +2,7 @@
 #![tactic(auto)]
 
 mod collected;
+mod driver_plan;
 mod files;
 mod input;
 mod laws;

@@ -199,8 +199,8 @@ const OPTIONS: &[PlanOption] = &[
         name: "pins",
         default: None,
         value: Some("FILE"),
-        help: "Write a shell script that sets the pins to FILE, one that restores the pins of now to FILE.back, and \
-               the list of the pins to FILE.own",
+        help: "Write a shell script that sets the pins to FILE, one that restores the pins of now to FILE.back, the \
+               list of the pins to FILE.own, and the changes for a driver of pins to FILE.plan",
     },
     PlanOption {
         name: "subvolumes",

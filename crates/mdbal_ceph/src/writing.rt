@@ -3,18 +3,21 @@ ghost use Rattle.std.specs.Prelude.{◌≡◌, IfOk};
 ghost use Rattle.ceph_pins.specs.PinsScript.{pins_script};
 ghost use Rattle.ceph_report.specs.Staying.{AreStays};
 ghost use Rattle.mdbal_ceph.specs.Writing.{AreFacts, ArePinFiles, IsTold, IsWritten};
-ghost use Rattle.mdbal_ceph.specs.Writing.{gain_of, least_for, plan_status, proposed_changes};
+ghost use Rattle.mdbal_ceph.specs.Writing.{IsDriverText, gain_of, identity_of, least_for, plan_status};
+ghost use Rattle.mdbal_ceph.specs.Writing.{proposed_changes};
 
+use crate::driver_plan::make_driver_text;
 use crate::outcome::Outcome;
 use crate::settings::{Least, PlanSettings};
 use anyhow::{Error, bail};
+use ceph_dumps::FileSystem;
 use ceph_pins::{
     MountedFileSystem, ScriptError, changes_back, make_own_list, make_pins_script, standing_pins,
 };
 use ceph_plan::{Gain, LeastGain, PinChange, is_worth_it};
 use ceph_report::{
-    Facts, Move, Roots, Stay, hottest, make_json, make_picture, make_report, make_script, moves_of,
-    roots_of, stays_of,
+    Facts, Move, Roots, Stay, hottest, inodes_brought, make_json, make_picture, make_report,
+    make_script, moves_of, roots_of, stays_of,
 };
 use ceph_snapshot::Directory;
 use mds_types::RankSet;
@@ -29,6 +32,8 @@ pub struct PinFiles {
     pub back: Vec<u8>,
     /// The list of the pins of this program once the first script has run.
     pub own: Vec<u8>,
+    /// The changes as the driver of pins reads them.
+    pub plan: Vec<u8>,
 }
 
 /// What is written of a plan.
@@ -184,6 +189,34 @@ fn script_of(
     }
 }
 
+/// What names a plan: the file system and its cluster.
+fn identity_of(alloc: Global, file_system: &FileSystem) -> Result<Vec<u8>, AllocError>
+    ensures { IfOk result (λ identity. identity.items ≡ identity_of file_system.now) }
+{
+    let mut identity = file_system.name.as_bytes().to_vec(alloc)?;
+    identity.push(b' ')?;
+    identity.extend_from_slice(file_system.fsid.as_bytes())?;
+    Ok(identity)
+}
+
+/// The changes as the driver of pins reads them.
+fn driver_text(
+    alloc: Global,
+    outcome: &Outcome,
+    changes: &[PinChange],
+) -> Result<Vec<u8>, AllocError>
+    ensures { IfOk result (λ text. IsDriverText outcome.now changes.now text.items) }
+{
+    let decision = &outcome.decision;
+    let (directories, rows) = (
+        outcome.directories.as_slice(),
+        decision.proposal.rows.as_slice(),
+    );
+    let inodes = inodes_brought(alloc, directories, &decision.holds, rows, changes)?;
+    let identity = identity_of(alloc, &outcome.file_system)?;
+    make_driver_text(alloc, identity, directories, rows, &inodes, changes)
+}
+
 /// The files of `--pins`.
 fn pin_files(
     alloc: Global,
@@ -207,6 +240,7 @@ fn pin_files(
         script: script_of(alloc, mounted, directories, changes)?,
         back: script_of(alloc, mounted, directories, &back)?,
         own: make_own_list(alloc, directories, rows, changes)?,
+        plan: driver_text(alloc, outcome, changes)?,
     })
 }
 
