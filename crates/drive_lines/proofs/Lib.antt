@@ -1,0 +1,4 @@
+pub mod Driven
+pub mod Fields
+pub mod Heard
+pub mod Runs

@@ -1,0 +1,4 @@
+pub mod Dialogue
+pub mod HostLines
+pub mod Machines
+pub mod Questions

@@ -1,0 +1,26 @@
+//! Drives the pins of a plan by lines: a host reads questions, and writes answers.
+//!
+//! A host, such as a shell script or a module of Ceph's manager, first gives the stored text of a plan. Then it is asked
+//! what a machine of `pin_driver` asks, one line a question, and answers each in one line. The host decides nothing.
+//! `docs/DRIVER.md` says what a host has to do.
+//!
+//! ```text
+//! host ---- stored text, and a line `.` ---> read_plan
+//! host <--- `get /a/b` ----------------------- say_question <--- PinMachine::question
+//! host ---- `found 1099511627776 -1` --------> HostReader::answer ---> PinMachine::answer
+//! host <--- `note gone /a/b` ----------------- say_note
+//! ```
+#![tactic(auto)]
+
+mod answers;
+pub mod drive_error;
+mod driving;
+pub mod host;
+mod machine;
+mod questions;
+pub mod run_end;
+
+pub use drive_error::DriveError;
+pub use driving::drive;
+pub use host::HostReader;
+pub use run_end::RunEnd;
