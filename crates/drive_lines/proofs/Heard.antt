@@ -1,9 +1,14 @@
 -- What was read of a host.
-use Rattle.std.proofs.Common.{◌≡◌, ◌∙◌, ◌⊎◌, inl, inr, ℕ, List, [], ◌∷◌, ◌++◌, Option, Some, None, Result, Ok, Err, OnErr, refl, sym, ap, subst, append_assoc, append-nil}
+use Rattle.std.proofs.Common.{◌≡◌, ◌≢◌, ◌∙◌, ◌⊎◌, inl, inr, codes, ℕ, List, [], ◌∷◌, ◌++◌, Option, Some, None, Result, Ok, Err, OnErr, refl, sym, ap, subst, append_assoc, append-nil}
 use Rattle.std.specs.Io.KnownBytes.{Consumes, IsAtEnd}
+use Rattle.std.specs.List.{flat_map}
+use Rattle.std.proofs.lemmas.List.Concat.{flat_map-append}
+use Rattle.std.proofs.lemmas.List.Elements.{All-push}
+use Rattle.pin_driver.specs.StoredText.{last_text}
 use Rattle.std.proofs.KnownBytes.{Consumes-trans, Consumes-nil}
 use Rattle.pin_driver.specs.declared.answer.HostAnswer.{HostAnswer}
-use Rattle.drive_lines.specs.Dialogue.{AreAllKnown, GivesAnswer, HasTaken, HostBytes}
+use Rattle.drive_lines.specs.Dialogue.{AreAllKnown, GivesAnswer, HasTaken, HostBytes, IsOneLine}
+use Rattle.drive_lines.specs.Outcomes.{IsBeforeDot}
 
 module _ {R : Type 0} (remaining : R → Option (List ℕ)) (a b c : HostBytes R) (bytes : List ℕ) where
   pub taken_more : (more : List ℕ) → HasTaken remaining a b bytes → HasTaken remaining b c more → HasTaken remaining a c (bytes ++ more)
@@ -38,3 +43,11 @@ gives_after known left front piece a took gives = elim gives [
 pub on_err : {A E : Type 0} (r : Result A E) (P : Type 0) → P → OnErr r P
 on_err (Ok x) P p = tt
 on_err (Err e) P p = p
+
+-- one more line of a text
+pub one_line_more : (text line : List ℕ) → IsBeforeDot text → IsOneLine line → line ≢ codes "." → IsBeforeDot (text ++ last_text line)
+one_line_more text line is one other = (
+  is.0 ++ line ∷ [],
+  ap (λ (t : List ℕ). t ++ last_text line) is.1 ∙ ap (λ (t : List ℕ). flat_map last_text is.0 ++ t) (sym (append-nil (last_text line))) ∙ sym (flat_map-append last_text is.0 (line ∷ [])),
+  All-push (λ l. IsOneLine l × (l ≢ codes ".")) is.0 line is.2 (one, other),
+)

@@ -95,7 +95,7 @@ fn digits_of(field: &[u8]) -> Option<u64>
 }
 
 /// The number of a field, which has a digit.
-fn answered_number(field: &[u8]) -> Option<u64>
+pub(crate) fn answered_number(field: &[u8]) -> Option<u64>
     ensures { result ≡ answered_number field.now }
 {
     if field.is_empty() {

@@ -72,7 +72,7 @@ impl<R: Read> HostReader<R> {
     }
 
     /// The next line.
-    fn next_line(&mut self, alloc: Global) -> Result<HostLine, DriveError>
+    pub(crate) fn next_line(&mut self, alloc: Global) -> Result<HostLine, DriveError>
         ensures ok { IfOk result (λ line. (bytes : List ℕ) × HasTaken R.remaining self.old self.new bytes
             × IsHostLine (R.remaining self.new.reader) bytes line) }
         ensures err { OnErr result ((bytes : List ℕ) × HasTaken R.remaining self.old self.new bytes) }

@@ -17,10 +17,18 @@ pub mod drive_error;
 mod driving;
 pub mod host;
 mod machine;
+mod plan_input;
+pub mod program;
 mod questions;
 pub mod run_end;
+pub mod run_error;
+mod running;
+pub mod settings;
 
 pub use drive_error::DriveError;
 pub use driving::drive;
 pub use host::HostReader;
+pub use program::start;
 pub use run_end::RunEnd;
+pub use run_error::RunError;
+pub use running::{run, run_status};
