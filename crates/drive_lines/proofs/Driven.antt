@@ -11,12 +11,11 @@ use Rattle.pin_driver.specs.declared.answer.HostAnswer.{HostAnswer}
 use Rattle.pin_driver.specs.declared.question.Ending.{Ending}
 use Rattle.pin_driver.specs.declared.question.Question.{Question}
 use Rattle.pin_driver.specs.declared.task.Task.{Task}
-use Rattle.drive_lines.specs.Dialogue.{AreHeard, GivesAnswer, IsCutRun, IsWholeRun, run_text, told_text}
+use Rattle.drive_lines.specs.Dialogue.{AreHeard, GivesAnswer, IsCutRun, IsWholeRun, told_text}
 use Rattle.drive_lines.specs.Machines.{IsAfter, any_set, ending_of, is_set_question, machine_task, run_asks, run_note}
 use Rattle.drive_lines.specs.Questions.{note_text, question_text}
 use Rattle.drive_lines.specs.declared.machine.PinMachine.{PinMachine}
 use Rattle.drive_lines.specs.declared.machine.PinMachine.TheVariants.{Setter, Restorer}
-use Rattle.drive_lines.specs.declared.run_end.RunEnd.{RunEnd}
 use Rattle.drive_lines.proofs.Heard.{gives_after}
 use Rattle.drive_lines.proofs.Runs.{ended_so, one_exchange}
 

@@ -1,11 +1,11 @@
 -- What was read of a host.
-use Rattle.std.proofs.Common.{◌≡◌, ◌≢◌, ◌∙◌, ◌⊎◌, inl, inr, codes, ℕ, List, [], ◌∷◌, ◌++◌, Option, Some, None, Result, Ok, Err, OnErr, refl, sym, ap, subst, append_assoc, append-nil}
+use Rattle.std.proofs.Common.{◌≢◌, ◌∙◌, inl, inr, codes, ℕ, List, [], ◌∷◌, ◌++◌, Option, Some, None, Result, Ok, Err, OnErr, sym, ap, subst, append_assoc, append-nil}
 use Rattle.std.specs.Io.KnownBytes.{Consumes, IsAtEnd}
 use Rattle.std.specs.List.{flat_map}
 use Rattle.std.proofs.lemmas.List.Concat.{flat_map-append}
 use Rattle.std.proofs.lemmas.List.Elements.{All-push}
 use Rattle.pin_driver.specs.StoredText.{last_text}
-use Rattle.std.proofs.KnownBytes.{Consumes-trans, Consumes-nil}
+use Rattle.std.proofs.KnownBytes.{Consumes-trans}
 use Rattle.pin_driver.specs.declared.answer.HostAnswer.{HostAnswer}
 use Rattle.drive_lines.specs.Dialogue.{AreAllKnown, GivesAnswer, HasTaken, HostBytes, IsOneLine}
 use Rattle.drive_lines.specs.Outcomes.{IsBeforeDot}

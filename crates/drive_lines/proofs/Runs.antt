@@ -1,5 +1,5 @@
 -- A run after one more answer.
-use Rattle.std.proofs.Common.{◌≡◌, ◌∙◌, Bool, true, false, List, [], ◌∷◌, ◌++◌, Option, Some, None, refl, sym, ap, subst}
+use Rattle.std.proofs.Common.{◌≡◌, ◌∙◌, Bool, true, false, List, [], ◌∷◌, ◌++◌, Some, None, refl, sym, ap}
 use Rattle.pin_driver.specs.Exchanges.{Exchange}
 use Rattle.pin_driver.specs.RestorerParts.{RestorerParts}
 use Rattle.pin_driver.specs.Restoring.{restorer_after, restorer_ended, restorer_question, restorer_question_in, restorer_run, restorer_start}
@@ -21,15 +21,19 @@ use Rattle.drive_lines.specs.Machines.{IsAfter, ending_of, run_asks}
 use Rattle.drive_lines.specs.declared.machine.PinMachine.TheVariants.{Setter, Restorer}
 
 pub setter_more : (x : Task) (s : SetterState) (h : List Exchange) (more : List HostAnswer) (a : HostAnswer) →
-    setter_run x s h (more ++ a ∷ []) ≡ (setter_after x (setter_run x s h more).0 a,
-    with_exchange (has_ended (setter_run x s h more).0.phase) (record { asked = setter_question x (setter_run x s h more).0; answer = a }) (setter_run x s h more).1)
+    setter_run x s h (more ++ a ∷ []) ≡ (
+      setter_after x (setter_run x s h more).0 a,
+      with_exchange (has_ended (setter_run x s h more).0.phase) (record { asked = setter_question x (setter_run x s h more).0; answer = a }) (setter_run x s h more).1,
+    )
 setter_more x s h [] a = refl
 setter_more x s h (b ∷ more) a =
     setter_more x (setter_after x s b) (with_exchange (has_ended s.phase) (record { asked = setter_question x s; answer = b }) h) more a
 
 pub restorer_more : (x : Task) (s : RestorerState) (h : List Exchange) (more : List HostAnswer) (a : HostAnswer) →
-    restorer_run x s h (more ++ a ∷ []) ≡ (restorer_after x (restorer_run x s h more).0 a,
-    with_exchange (restorer_ended (restorer_run x s h more).0.phase) (record { asked = restorer_question x (restorer_run x s h more).0; answer = a }) (restorer_run x s h more).1)
+    restorer_run x s h (more ++ a ∷ []) ≡ (
+      restorer_after x (restorer_run x s h more).0 a,
+      with_exchange (restorer_ended (restorer_run x s h more).0.phase) (record { asked = restorer_question x (restorer_run x s h more).0; answer = a }) (restorer_run x s h more).1,
+    )
 restorer_more x s h [] a = refl
 restorer_more x s h (b ∷ more) a =
     restorer_more x (restorer_after x s b) (with_exchange (restorer_ended s.phase) (record { asked = restorer_question x s; answer = b }) h) more a

@@ -1,5 +1,5 @@
 -- A setter or a restorer, after the answers that it was given.
-use Rattle.std.specs.Prelude.{◌≡◌, ℕ, Bool, true, false, ◌||◌, List, [], ◌∷◌, Option, Some, None}
+use Rattle.std.specs.Prelude.{◌≡◌, Bool, true, false, ◌||◌, List, [], ◌∷◌, Option, Some, None}
 use Rattle.pin_driver.specs.Exchanges.{Exchange}
 use Rattle.pin_driver.specs.Notes.{restorer_note, setter_note}
 use Rattle.pin_driver.specs.Restoring.{restorer_run, restorer_start}

@@ -1,5 +1,5 @@
 -- The lines that are written: questions, and what became of changes.
-use Rattle.std.specs.Prelude.{ℕ, List, [], ◌∷◌, ◌++◌, codes, decimal, slice_get, Option, Some, None}
+use Rattle.std.specs.Prelude.{ℕ, List, [], ◌++◌, codes, decimal, slice_get, Option, Some, None}
 use Rattle.pin_driver.specs.PinPlan.{PlanParts}
 use Rattle.pin_driver.specs.StoredText.{field_text, kept_bytes, last_text, stored_text}
 use Rattle.pin_driver.specs.declared.note.Note.{Note}

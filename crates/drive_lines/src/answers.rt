@@ -143,7 +143,10 @@ fn found_of(fields: &[Bytes]) -> Option<FoundPin>
     match fields {
         [word, inode, pin] => {
             if word.as_slice() == b"found".as_slice() {
-                found_with(answered_number(inode.as_slice()), answered_pin(pin.as_slice()))
+                found_with(
+                    answered_number(inode.as_slice()),
+                    answered_pin(pin.as_slice()),
+                )
             } else {
                 None
             }

@@ -43,13 +43,7 @@ pub fn run_status(outcome: &Result<RunEnd, RunError>) -> u8
     match outcome {
         Ok(end) => match end.ending {
             Ending::Done => 0,
-            Ending::Stopped(_) => {
-                if end.was_set {
-                    4
-                } else {
-                    3
-                }
-            }
+            Ending::Stopped(_) => { if end.was_set { 4 } else { 3 } }
         },
         Err(_) => 1,
     }

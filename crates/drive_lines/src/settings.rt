@@ -16,7 +16,8 @@ use std::convert::AsStr;
 const VERSION: &str = "0.1.0";
 
 /// What `--help` prints first.
-const ABOUT: &str = "Asks a host over standard input and output to set the export pins of a plan, or to restore those of \
+const ABOUT: &str =
+    "Asks a host over standard input and output to set the export pins of a plan, or to restore those of \
                      before. Status 0: done; 1: text refused, or a device failed; 2: command line refused; 3: stopped \
                      before any pin was set; 4: stopped after";
 

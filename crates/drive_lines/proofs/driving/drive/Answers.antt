@@ -1,13 +1,12 @@
-use Rattle.std.proofs.Common.{◌≡◌, ◌∙◌, ◌++◌, ◌∷◌, [], ◌||◌, ℕ, Bool, List, Option, None, refl, sym, ap, subst, append-nil}
-use Rattle.std.specs.Io.KnownBytes.{Appends, Consumes}
+use Rattle.std.proofs.Common.{◌≡◌, ◌∙◌, ◌++◌, ◌∷◌, [], ◌||◌, ℕ, Bool, List, sym, ap, subst, append-nil}
+use Rattle.std.specs.Io.KnownBytes.{Appends}
 use Rattle.std.proofs.KnownBytes.{Consumes-nil}
 use Rattle.script_engine.specs.Known.{AppendsFront}
-use Rattle.pin_driver.specs.Sessions.{IsRightRun}
 use Rattle.pin_driver.specs.declared.answer.HostAnswer.{HostAnswer}
 use Rattle.pin_driver.specs.declared.note.Note.{Note}
 use Rattle.pin_driver.specs.declared.task.Task.{Task}
 use Rattle.drive_lines.specs.Dialogue.{HasTaken, IsCutRun}
-use Rattle.drive_lines.specs.Machines.{ending_of, is_set_question, run_note}
+use Rattle.drive_lines.specs.Machines.{is_set_question}
 use Rattle.drive_lines.specs.Questions.{note_text, question_text}
 use Rattle.drive_lines.proofs.Driven.{IsGoing, begins, cut_answer, cut_late, cut_note, cut_question, goes_on, rights, run_ends, task_is}
 use Rattle.drive_lines.proofs.Heard.{on_err, taken_more}
@@ -62,8 +61,7 @@ returns-in_err-answer-clause-cut g c =
     let whole = subst (λ (t : Task). Appends before after (question_text t.plan q)) so c.in_ok-say_question.ensures.ok in
     let is = c.question-question.ensures c.args.is_back c.args.task at.1 at.3.machine_is in
     let tail = c.in_err-answer.ensures.err in
-    let cut : (bytes : List ℕ) × (more : List HostAnswer) × HasTaken g.R.Read.remaining c.args.host.now c.answer.new.self bytes × IsCutRun known c.args.is_back c.args.task old after bytes more =
-    (
+    let cut : (bytes : List ℕ) × (more : List HostAnswer) × HasTaken g.R.Read.remaining c.args.host.now c.answer.new.self bytes × IsCutRun known c.args.is_back c.args.task old after bytes more = (
       at.0 ++ tail.0,
       at.1,
       taken_more g.R.Read.remaining c.args.host.now c.loop.host c.answer.new.self at.0 tail.0 at.2 tail.1,
@@ -91,9 +89,8 @@ returns-in_err-say_note-clause-cut g c =
     let then_so = c.task-in-loop.ensures ∙ task_is c.args.is_back c.args.task (at.1 ++ a ∷ []) c.answer-note.new.self machine_so in
     let note_is = c.answer-note.ensures.note c.args.is_back c.args.task at.1 at.3.machine_is in
     let part = subst (λ (n : Note). AppendsFront mid after (note_text c.args.task.plan n)) note_is
-        (subst (λ (t : Task). AppendsFront mid after (note_text t.plan c.answer-note.result)) then_so c.in_err-say_note.ensures.err) in
-    let cut : (bytes : List ℕ) × (more : List HostAnswer) × HasTaken g.R.Read.remaining c.args.host.now c.answer.new.self bytes × IsCutRun known c.args.is_back c.args.task old after bytes more =
-    (
+    (subst (λ (t : Task). AppendsFront mid after (note_text t.plan c.answer-note.result)) then_so c.in_err-say_note.ensures.err) in
+    let cut : (bytes : List ℕ) × (more : List HostAnswer) × HasTaken g.R.Read.remaining c.args.host.now c.answer.new.self bytes × IsCutRun known c.args.is_back c.args.task old after bytes more = (
       at.0 ++ piece.0,
       at.1 ++ a ∷ [],
       taken_more g.R.Read.remaining c.args.host.now c.loop.host c.answer.new.self at.0 piece.0 at.2 piece.1,
@@ -121,9 +118,8 @@ loop-preserved g c =
     let then_so = c.task-in-loop.ensures ∙ task_is c.args.is_back c.args.task (at.1 ++ a ∷ []) c.answer-note.new.self machine_so in
     let note_is = c.answer-note.ensures.note c.args.is_back c.args.task at.1 at.3.machine_is in
     let part = subst (λ (n : Note). Appends mid after (note_text c.args.task.plan n)) note_is
-        (subst (λ (t : Task). Appends mid after (note_text t.plan c.answer-note.result)) then_so c.in_ok-say_note.ensures.ok) in
-    let set_is : c.either-was_set.result ≡ (c.loop.was_set || is_set_question q) = c.either-was_set.ensures ∙ ap (λ (b : Bool). c.loop.was_set || b) c.is_set_question.ensures in
-    (
+    (subst (λ (t : Task). Appends mid after (note_text t.plan c.answer-note.result)) then_so c.in_ok-say_note.ensures.ok) in
+    let set_is : c.either-was_set.result ≡ (c.loop.was_set || is_set_question q) = c.either-was_set.ensures ∙ ap (λ (b : Bool). c.loop.was_set || b) c.is_set_question.ensures in (
       at.0 ++ piece.0,
       at.1 ++ a ∷ [],
       taken_more g.R.Read.remaining c.args.host.now c.loop.host c.answer.new.self at.0 piece.0 at.2 piece.1,

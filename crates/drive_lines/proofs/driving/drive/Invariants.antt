@@ -1,4 +1,4 @@
-use Rattle.std.proofs.Common.{◌≡◌, List, ℕ}
+use Rattle.std.proofs.Common.{List, ℕ}
 use Rattle.drive_lines.proofs.Driven.{IsGoing}
 use Rattle.drive_lines.specs.Dialogue.{HasTaken}
 use Rattle.pin_driver.specs.declared.answer.HostAnswer.{HostAnswer}

@@ -1,9 +1,6 @@
-use Rattle.std.proofs.Common.{◌≡◌, ◌∙◌, ◌++◌, List, Option, Result, IfOk, IfErr, ℕ, inr, rules, subst, sym}
-use Rattle.pin_driver.specs.declared.answer.HostAnswer.{HostAnswer}
-use Rattle.drive_lines.specs.Dialogue.{HasTaken, IsCutRun, IsWholeRun}
-use Rattle.drive_lines.specs.Outcomes.{dot_line, task_with}
-use Rattle.drive_lines.specs.declared.drive_error.DriveError.{DriveError}
-use Rattle.drive_lines.specs.declared.run_end.RunEnd.{RunEnd}
+use Rattle.std.proofs.Common.{◌∙◌, ◌++◌, List, ℕ, inr, subst, sym}
+use Rattle.drive_lines.specs.Dialogue.{HasTaken}
+use Rattle.drive_lines.specs.Outcomes.{dot_line}
 use Rattle.drive_lines.proofs.running.run.Goals as goal
 
 pub returns-in-Ok : goal.returns-in-Ok

@@ -1,9 +1,8 @@
 use Rattle.std.proofs.Common.{◌≡◌, ◌∙◌, map, ap, sym, subst}
 use Rattle.std.proofs.lemmas.Result.{err_from_is_err_and}
 use Rattle.clap.specs.Kinds.{HasKind}
-use Rattle.clap.specs.Matches.{found_of}
 use Rattle.clap.specs.Simple.{is_simple}
-use Rattle.clap.specs.Words.{App, app_of, fault_of, is_simple_and_free, matches_of, rows_of}
+use Rattle.clap.specs.Words.{App, app_of, fault_of, is_simple_and_free, matches_of}
 use Rattle.drive_lines.specs.Settings.{mdbal_drive}
 use Rattle.drive_lines.proofs.Simple.{explained, is_plain_line, is_simple_line}
 use Rattle.drive_lines.proofs.settings.found_in.Goals as goal

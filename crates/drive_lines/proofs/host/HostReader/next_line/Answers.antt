@@ -1,6 +1,6 @@
-use Rattle.std.proofs.Common.{◌≡◌, ◌≢◌, ◌+◌, ◌++◌, ◌∷◌, [], rules, arith, ℕ, List, length, Option, IfSome, subst, sym}
+use Rattle.std.proofs.Common.{◌≢◌, ◌++◌, ◌∷◌, [], rules, arith, ℕ, List, Option, IfSome, subst}
 use Rattle.std.proofs.lemmas.List.Elements.{All-push}
-use Rattle.drive_lines.specs.Dialogue.{HasTaken, IsOneLine}
+use Rattle.drive_lines.specs.Dialogue.{HasTaken}
 use Rattle.drive_lines.proofs.Heard.{on_err, taken_more}
 use Rattle.drive_lines.proofs.host.HostReader.next_line.Goals as goal
 
