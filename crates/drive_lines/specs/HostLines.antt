@@ -45,13 +45,13 @@ found_with (Some inode) None = None
 found_with (Some inode) (Some pin) = Some (record { inode = inode; pin = pin })
 
 -- the directory of a line `found INODE PIN`
-abbrev pub found_of : List (List ℕ) → Option FoundPin
-found_of [] = None
-found_of (word ∷ []) = None
-found_of (word ∷ inode ∷ []) = None
-found_of (word ∷ inode ∷ pin ∷ []) =
+abbrev pub found_directory : List (List ℕ) → Option FoundPin
+found_directory [] = None
+found_directory (word ∷ []) = None
+found_directory (word ∷ inode ∷ []) = None
+found_directory (word ∷ inode ∷ pin ∷ []) =
     if bytes_eq word (codes "found") then found_with (answered_number inode) (answered_pin pin) else None
-found_of (word ∷ inode ∷ pin ∷ more ∷ rest) = None
+found_directory (word ∷ inode ∷ pin ∷ more ∷ rest) = None
 
 -- the line is `cluster RANKS`, with any number of warnings after it
 abbrev pub is_cluster_line : List (List ℕ) → Bool
@@ -62,19 +62,19 @@ is_cluster_line (word ∷ ranks ∷ warnings) = bytes_eq word (codes "cluster")
 -- a line with none of the forms of an answer
 pub record HasNoForm (line : List ℕ) : Type 0 where
   pub word : word_answer line ≡ None
-  pub found : found_of (line_fields line) ≡ None
+  pub found : found_directory (line_fields line) ≡ None
   pub cluster : is_cluster_line (line_fields line) ≡ false
 
 -- a line, without its newline, means this answer
 abbrev pub Means : List ℕ → HostAnswer → Type 0
 Means line (answers.Cluster c) = line_fields line ≡ codes "cluster" ∷ c.ranks ∷ c.warnings.items
-Means line (answers.Found found) = found_of (line_fields line) ≡ Some found
+Means line (answers.Found found) = found_directory (line_fields line) ≡ Some found
 Means line answers.Nonsense = HasNoForm line
 Means line a = word_answer line ≡ Some a
 
 -- the fields of a line that is not one word mean this answer
 abbrev pub MeansFields : List (List ℕ) → HostAnswer → Type 0
 MeansFields fields (answers.Cluster c) = fields ≡ codes "cluster" ∷ c.ranks ∷ c.warnings.items
-MeansFields fields (answers.Found found) = found_of fields ≡ Some found
-MeansFields fields answers.Nonsense = (found_of fields ≡ None) × (is_cluster_line fields ≡ false)
+MeansFields fields (answers.Found found) = found_directory fields ≡ Some found
+MeansFields fields answers.Nonsense = (found_directory fields ≡ None) × (is_cluster_line fields ≡ false)
 MeansFields fields a = ⊥

@@ -13,13 +13,13 @@ use Rattle.pin_driver.specs.declared.question.Trouble.{Trouble}
 use Rattle.pin_driver.specs.declared.question.Trouble.TheVariants as troubles
 
 -- the path of a change, as the stored text writes it
-abbrev pub path_of : Option PlannedChange → List ℕ
-path_of None = []
-path_of (Some change) = kept_bytes change.path
+abbrev pub change_path : Option PlannedChange → List ℕ
+change_path None = []
+change_path (Some change) = kept_bytes change.path
 
 -- the path of the change at a place, to the end of the line
 abbrev pub path_text : PlanParts → ℕ → List ℕ
-path_text plan place = last_text (path_of (slice_get plan.changes place))
+path_text plan place = last_text (change_path (slice_get plan.changes place))
 
 -- a pin, or -1 where there is none
 abbrev pub pin_word : Option ℕ → List ℕ

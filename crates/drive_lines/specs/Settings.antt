@@ -65,7 +65,8 @@ found_settings rows =
 abbrev pub asked_settings : List Text → Option DriveSettings
 asked_settings words = found_settings (matches_of mdbal_drive words)
 
--- why the words give no settings: `clap` refuses them, or they ask for the help or the version; or a value has not its form
+-- why the words give no settings: `clap` refuses them, or they ask for the help or the version; or a value has another
+-- form
 abbrev pub IsRefusedBy : List Text → SettingsError → Type 0
 IsRefusedBy words (Words error) = Explains (fault_of mdbal_drive words) error
 IsRefusedBy words Value = (fault_of mdbal_drive words ≡ []) × (asked_settings words ≡ None)

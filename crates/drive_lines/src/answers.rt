@@ -3,7 +3,7 @@ ghost use Rattle.std.specs.Prelude.{◌≡◌, ◌<◌, ◌∷◌, ◌++◌, ◌
 ghost use Rattle.std.specs.List.{slice_split};
 ghost use Rattle.pin_driver.specs.StoredReading.{field_number, field_rank, next_digit};
 ghost use Rattle.drive_lines.specs.HostLines.{Means, MeansFields, answered_number, answered_pin, answered_rank};
-ghost use Rattle.drive_lines.specs.HostLines.{found_of, found_with, is_cluster_line, line_fields, word_answer};
+ghost use Rattle.drive_lines.specs.HostLines.{found_directory, found_with, is_cluster_line, line_fields, word_answer};
 
 use mds_types::Rank;
 use pin_driver::{Bytes, ClusterState, FoundPin, HostAnswer};
@@ -137,8 +137,8 @@ fn found_with(inode: Option<u64>, pin: Option<Option<Rank>>) -> Option<FoundPin>
 }
 
 /// The directory of a line `found INODE PIN`.
-fn found_of(fields: &[Bytes]) -> Option<FoundPin>
-    ensures { result ≡ found_of fields.now }
+fn found_directory(fields: &[Bytes]) -> Option<FoundPin>
+    ensures { result ≡ found_directory fields.now }
 {
     match fields {
         [word, inode, pin] => {
@@ -186,7 +186,7 @@ fn fields_answer(fields: Vec<Bytes>) -> HostAnswer
     if is_cluster_line(fields.as_slice()) {
         return HostAnswer::Cluster(cluster_of(fields));
     }
-    match found_of(fields.as_slice()) {
+    match found_directory(fields.as_slice()) {
         Some(found) => HostAnswer::Found(found),
         None => HostAnswer::Nonsense,
     }

@@ -55,7 +55,8 @@ impl<R: Read> HostReader<R> {
 
     /// The next byte, or none at the end of the input.
     pub(crate) fn next_byte(&mut self) -> Result<Option<u8>, DriveError>
-        ensures byte { IfOk result (λ found. IfSome found (λ byte. HasTaken R.remaining self.old self.new (byte ∷ []))) }
+        ensures byte { IfOk result (λ found. IfSome found
+            (λ byte. HasTaken R.remaining self.old self.new (byte ∷ []))) }
         ensures end { IfOk result (λ found. found ≡ None →
             HasTaken R.remaining self.old self.new [] × IsAtEnd (R.remaining self.new.reader)) }
         ensures err { OnErr result (HasTaken R.remaining self.old self.new []) }

@@ -1,8 +1,15 @@
 //! Drives the pins of a plan by lines: a host reads questions, and writes answers.
 //!
-//! A host, such as a shell script or a module of Ceph's manager, first gives the stored text of a plan. Then it is asked
-//! what a machine of `pin_driver` asks, one line a question, and answers each in one line. The host decides nothing.
-//! `docs/DRIVER.md` says what a host has to do.
+//! A host, such as a shell script or a module of Ceph's manager, first gives the stored text of a plan. Then it is
+//! asked what a machine of `pin_driver` asks, one line a question, and answers each in one line. The host decides
+//! nothing. `docs/DRIVER.md` says what a host has to do.
+//!
+//! `run` says what is read and written (`IsRunResult`, `specs/Outcomes.antt`): the questions are those that the machine
+//! asks after the answers that the lines mean, and each is right as `pin_driver` says (`IsRightRun`), whatever bytes the
+//! host sends. Where a device fails, a beginning of that was written.
+//!
+//! Not promised: that a question reaches the host before its answer is read, though the writer is flushed after each
+//! question; that what the host says is true.
 //!
 //! ```text
 //! host ---- stored text, and a line `.` ---> read_plan
@@ -18,17 +25,17 @@ mod driving;
 pub mod host;
 mod machine;
 mod plan_input;
+pub mod plan_run_error;
 pub mod program;
 mod questions;
 pub mod run_end;
-pub mod run_error;
 mod running;
 pub mod settings;
 
 pub use drive_error::DriveError;
 pub use driving::drive;
 pub use host::HostReader;
+pub use plan_run_error::PlanRunError;
 pub use program::start;
 pub use run_end::RunEnd;
-pub use run_error::RunError;
-pub use running::{run, run_status};
+pub use running::{drive_status, run};

@@ -8,7 +8,7 @@ ghost use Rattle.drive_lines.specs.Outcomes.{IsBeforeDot, IsNoDot, IsNoPlan, dot
 
 use crate::drive_error::DriveError;
 use crate::host::{HostLine, HostReader};
-use crate::run_error::RunError;
+use crate::plan_run_error::PlanRunError;
 use pin_driver::{StoredPlan, TextError, read_stored};
 use std::alloc::{AllocError, Global};
 use std::io::Read;
@@ -26,11 +26,11 @@ fn push_line(text: &mut Vec<u8>, line: &[u8]) -> Result<(), AllocError>
 pub(crate) fn read_text<R: Read>(
     alloc: Global,
     host: &mut HostReader<R>,
-) -> Result<Vec<u8>, RunError>
+) -> Result<Vec<u8>, PlanRunError>
     ensures text { IfOk result (λ text. HasTaken R.remaining host.old host.new (text.items ++ dot_line)
         × IsBeforeDot text.items) }
-    ensures unended { IsErrOf result RunError.Unended → IsNoDot R.remaining host.old host.new }
-    ensures other { (error : Texts) → IsErrOf result (RunError.Text error) → ⊥ }
+    ensures unended { IsErrOf result PlanRunError.Unended → IsNoDot R.remaining host.old host.new }
+    ensures other { (error : Texts) → IsErrOf result (PlanRunError.Text error) → ⊥ }
 {
     let mut text = Vec::new(alloc);
     for _ in 0..u64::MAX {
@@ -41,22 +41,22 @@ pub(crate) fn read_text<R: Read>(
                 }
                 push_line(&mut text, line.as_slice())?;
             }
-            HostLine::TooLong | HostLine::Ended => return Err(RunError::Unended),
+            HostLine::TooLong | HostLine::Ended => return Err(PlanRunError::Unended),
         }
     }
-    Err(RunError::Cut(DriveError::Read))
+    Err(PlanRunError::Cut(DriveError::Read))
 }
 
 /// The plan of a text, and how far it is.
-pub(crate) fn plan_of(alloc: Global, text: &[u8]) -> Result<StoredPlan, RunError>
+pub(crate) fn plan_of(alloc: Global, text: &[u8]) -> Result<StoredPlan, PlanRunError>
     ensures same { IfOk result (λ found. text.now ≡ text_of found.plan found.mark) }
     ensures sound { IfOk result (λ found. IsMark found.mark (length found.plan.changes)) }
-    ensures refused { (error : Texts) → IsErrOf result (RunError.Text error) → IsNoPlan text.now }
-    ensures ended { IsErrOf result RunError.Unended → ⊥ }
+    ensures refused { (error : Texts) → IsErrOf result (PlanRunError.Text error) → IsNoPlan text.now }
+    ensures ended { IsErrOf result PlanRunError.Unended → ⊥ }
 {
     match read_stored(alloc, text) {
         Ok(found) => Ok(found),
-        Err(TextError::Memory) => Err(RunError::Cut(DriveError::Memory)),
-        Err(error) => Err(RunError::Text(error)),
+        Err(TextError::Memory) => Err(PlanRunError::Cut(DriveError::Memory)),
+        Err(error) => Err(PlanRunError::Text(error)),
     }
 }

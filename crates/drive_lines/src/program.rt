@@ -3,7 +3,7 @@ ghost use Rattle.std.specs.Prelude.{◌≡◌, map};
 ghost use Rattle.drive_lines.specs.Outcomes.{IsDriveExit, IsRefusedExit, IsRunExit};
 
 use crate::host::HostReader;
-use crate::running::{run, run_status};
+use crate::running::{drive_status, run};
 use crate::settings::{DriveSettings, SettingsError, settings};
 use std::alloc::Global;
 use std::convert::AsStr;
@@ -11,8 +11,8 @@ use std::io::{Read, Write};
 
 /// Drives a plan as the words of a command line say, and gives the exit status. The first word is the program's name.
 ///
-/// The host's answers come from `host`, and the questions go to `writer`; why a run came to no end goes to `errors`. The
-/// help and the version go to `writer`.
+/// The host's answers come from `host`, and the questions go to `writer`, as do the help and the version. Why a run
+/// came to no end goes to `errors`.
 pub fn start<S: AsStr, R: Read, W: Write, E: Write>(
     alloc: Global,
     words: &[S],
@@ -42,7 +42,7 @@ fn drive_plan<R: Read, W: Write, E: Write>(
     if let Err(error) = &outcome {
         let _ = writeln!(errors, "mdbal_drive: {error}");
     }
-    run_status(&outcome)
+    drive_status(&outcome)
 }
 
 /// Prints why the words give no settings: the help and the version to `writer`, all else to `errors`. Gives the status.

@@ -77,7 +77,8 @@ fn push_last_word(text: &mut Vec<u8>, word: &[u8]) -> Result<(), AllocError>
 
 /// Adds the question to wait so many seconds.
 fn push_wait(alloc: Global, text: &mut Vec<u8>, seconds: u64) -> Result<(), AllocError>
-    ensures { OnOk result (text.new.items ≡ text.old.items ++ (field_text (codes "wait") ++ last_text (decimal seconds))) }
+    ensures { OnOk result (text.new.items
+        ≡ text.old.items ++ (field_text (codes "wait") ++ last_text (decimal seconds))) }
 {
     let digits = format!(in alloc; "{seconds}")?;
     push_word(text, b"wait")?;

@@ -1,7 +1,7 @@
 //! Why a plan was not driven to an end.
 ghost use Rattle.std.specs.Prelude.{◌≡◌};
 ghost use Rattle.drive_lines.specs.declared.drive_error.DriveError.TheVariants.{Memory};
-ghost use Rattle.drive_lines.specs.declared.run_error.RunError.TheVariants.{Cut};
+ghost use Rattle.drive_lines.specs.declared.plan_run_error.PlanRunError.TheVariants.{Cut};
 
 use crate::drive_error::DriveError;
 use pin_driver::TextError;
@@ -10,7 +10,7 @@ use thiserror::Error;
 
 /// Why a plan was not driven to an end.
 #[derive(Clone, Copy, Debug, PartialEq, Eq, Error)]
-pub enum RunError {
+pub enum PlanRunError {
     /// The text is no stored text of a plan. Nothing was asked.
     #[error("{0}")]
     Text(TextError),
@@ -22,18 +22,18 @@ pub enum RunError {
     Cut(DriveError),
 }
 
-impl From<DriveError> for RunError {
+impl From<DriveError> for PlanRunError {
     ghost from_gives = { λ error e. e ≡ Cut error };
 
-    fn from(error: DriveError) -> RunError {
-        RunError::Cut(error)
+    fn from(error: DriveError) -> PlanRunError {
+        PlanRunError::Cut(error)
     }
 }
 
-impl From<AllocError> for RunError {
+impl From<AllocError> for PlanRunError {
     ghost from_gives = { λ _ e. e ≡ Cut Memory };
 
-    fn from(_: AllocError) -> RunError {
-        RunError::Cut(DriveError::Memory)
+    fn from(_: AllocError) -> PlanRunError {
+        PlanRunError::Cut(DriveError::Memory)
     }
 }
