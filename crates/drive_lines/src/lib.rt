@@ -4,15 +4,15 @@
 //! asked what a machine of `pin_driver` asks, one line a question, and answers each in one line. The host decides
 //! nothing. `docs/DRIVER.md` says what a host has to do.
 //!
-//! `run` says what is read and written (`IsRunResult`, `specs/Outcomes.antt`): the questions are those that the machine
-//! asks after the answers that the lines mean, and each is right as `pin_driver` says (`IsRightRun`), whatever bytes the
-//! host sends. Where a device fails, a beginning of that was written.
+//! The contract of `run` says what is read and written (`IsRunResult`, `specs/Outcomes.antt`). The questions are those
+//! that the machine asks after the answers that the lines mean. Each is right as `pin_driver` says (`IsRightRun`),
+//! whatever bytes the host sends. Where a device fails, a beginning of that was written.
 //!
 //! Not promised: that a question reaches the host before its answer is read, though the writer is flushed after each
 //! question; that what the host says is true.
 //!
 //! ```text
-//! host ---- stored text, and a line `.` ---> read_plan
+//! host ---- stored text, and a line `.` ---> read_text
 //! host <--- `get /a/b` ----------------------- say_question <--- PinMachine::question
 //! host ---- `found 1099511627776 -1` --------> HostReader::answer ---> PinMachine::answer
 //! host <--- `note gone /a/b` ----------------- say_note
