@@ -1,0 +1,5 @@
+pub mod Driven
+pub mod Fields
+pub mod Heard
+pub mod Runs
+pub mod Simple
