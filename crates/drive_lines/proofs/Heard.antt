@@ -1,5 +1,28 @@
 -- What was read of a host.
-use Rattle.std.proofs.Common.{◌≢◌, ◌∙◌, inl, inr, codes, ℕ, List, [], ◌∷◌, ◌++◌, Option, Some, None, Result, Ok, Err, OnErr, sym, ap, subst, append_assoc, append-nil}
+use Rattle.std.proofs.Common.{
+  ◌≢◌,
+  ◌∙◌,
+  inl,
+  inr,
+  codes,
+  ℕ,
+  List,
+  [],
+  ◌∷◌,
+  ◌++◌,
+  Option,
+  Some,
+  None,
+  Result,
+  Ok,
+  Err,
+  OnErr,
+  sym,
+  ap,
+  subst,
+  append_assoc,
+  append-nil,
+}
 use Rattle.std.specs.Io.KnownBytes.{Consumes, IsAtEnd}
 use Rattle.std.specs.List.{flat_map}
 use Rattle.std.proofs.lemmas.List.Concat.{flat_map-append}
@@ -12,8 +35,11 @@ use Rattle.drive_lines.specs.Outcomes.{IsBeforeDot}
 
 module _ {R : Type 0} (remaining : R → Option (List ℕ)) (a b c : HostBytes R) (bytes : List ℕ) where
   pub taken_more : (more : List ℕ) → HasTaken remaining a b bytes → HasTaken remaining b c more → HasTaken remaining a c (bytes ++ more)
-  taken_more more before now =
-      (Consumes-trans (remaining a.reader) (remaining b.reader) (remaining c.reader) bytes more before.0 now.0, now.1 ∙ ap (λ (t : List ℕ). t ++ more) before.1 ∙ append_assoc a.taken bytes more)
+  taken_more more before now = (
+    Consumes-trans (remaining a.reader) (remaining b.reader) (remaining c.reader) bytes more before.0 now.0,
+    now.1 ∙ ap (λ (t : List ℕ). t ++ more)
+        before.1 ∙ append_assoc a.taken bytes more,
+  )
 
   pub taken_none : HasTaken remaining a b bytes → HasTaken remaining b c [] → HasTaken remaining a c bytes
   taken_none before now = subst (λ (t : List ℕ). HasTaken remaining a c t) (append-nil bytes) (taken_more [] before now)
@@ -48,6 +74,7 @@ on_err (Err e) P p = p
 pub one_line_more : (text line : List ℕ) → IsBeforeDot text → IsOneLine line → line ≢ codes "." → IsBeforeDot (text ++ last_text line)
 one_line_more text line is one other = (
   is.0 ++ line ∷ [],
-  ap (λ (t : List ℕ). t ++ last_text line) is.1 ∙ ap (λ (t : List ℕ). flat_map last_text is.0 ++ t) (sym (append-nil (last_text line))) ∙ sym (flat_map-append last_text is.0 (line ∷ [])),
+  ap (λ (t : List ℕ). t ++ last_text line) is.1 ∙ ap (λ (t : List ℕ). flat_map last_text is.0 ++ t) (sym (append-nil (last_text line))) ∙ sym
+      (flat_map-append last_text is.0 (line ∷ [])),
   All-push (λ l. IsOneLine l × (l ≢ codes ".")) is.0 line is.2 (one, other),
 )

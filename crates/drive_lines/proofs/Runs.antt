@@ -23,7 +23,8 @@ use Rattle.drive_lines.specs.declared.machine.PinMachine.TheVariants.{Setter, Re
 pub setter_more : (x : Task) (s : SetterState) (h : List Exchange) (more : List HostAnswer) (a : HostAnswer) →
     setter_run x s h (more ++ a ∷ []) ≡ (
       setter_after x (setter_run x s h more).0 a,
-      with_exchange (has_ended (setter_run x s h more).0.phase) (record { asked = setter_question x (setter_run x s h more).0; answer = a }) (setter_run x s h more).1,
+      with_exchange (has_ended (setter_run x s h more).0.phase) (record { asked = setter_question x (setter_run x s h more).0; answer = a })
+          (setter_run x s h more).1,
     )
 setter_more x s h [] a = refl
 setter_more x s h (b ∷ more) a =
@@ -32,13 +33,15 @@ setter_more x s h (b ∷ more) a =
 pub restorer_more : (x : Task) (s : RestorerState) (h : List Exchange) (more : List HostAnswer) (a : HostAnswer) →
     restorer_run x s h (more ++ a ∷ []) ≡ (
       restorer_after x (restorer_run x s h more).0 a,
-      with_exchange (restorer_ended (restorer_run x s h more).0.phase) (record { asked = restorer_question x (restorer_run x s h more).0; answer = a }) (restorer_run x s h more).1,
+      with_exchange (restorer_ended (restorer_run x s h more).0.phase) (record { asked = restorer_question x (restorer_run x s h more).0; answer = a })
+          (restorer_run x s h more).1,
     )
 restorer_more x s h [] a = refl
 restorer_more x s h (b ∷ more) a =
     restorer_more x (restorer_after x s b) (with_exchange (restorer_ended s.phase) (record { asked = restorer_question x s; answer = b }) h) more a
 
-pub setter_answered : (is_back : Bool) (x : Task) (more : List HostAnswer) (s t : SetterParts) (a : HostAnswer) → t.task ≡ s.task → t.state ≡ setter_after s.task s.state a →
+pub setter_answered : (is_back : Bool) (x : Task) (more : List HostAnswer) (s t : SetterParts) (a : HostAnswer) → t.task ≡ s.task → t.state ≡
+    setter_after s.task s.state a →
     IsAfter is_back x more (Setter s) → IsAfter is_back x (more ++ a ∷ []) (Setter t)
 setter_answered true x more s t a task state is = absurd is
 setter_answered false x more s t a task state is = (
@@ -47,7 +50,8 @@ setter_answered false x more s t a task state is = (
       ∙ sym (ap (λ (p : SetterState × List Exchange). p.0) (setter_more x (setter_start x) [] more a)),
 )
 
-pub restorer_answered : (is_back : Bool) (x : Task) (more : List HostAnswer) (s t : RestorerParts) (a : HostAnswer) → t.task ≡ s.task → t.state ≡ restorer_after s.task s.state a →
+pub restorer_answered : (is_back : Bool) (x : Task) (more : List HostAnswer) (s t : RestorerParts) (a : HostAnswer) → t.task ≡ s.task → t.state ≡
+    restorer_after s.task s.state a →
     IsAfter is_back x more (Restorer s) → IsAfter is_back x (more ++ a ∷ []) (Restorer t)
 restorer_answered false x more s t a task state is = absurd is
 restorer_answered true x more s t a task state is = (

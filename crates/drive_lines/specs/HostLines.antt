@@ -39,6 +39,7 @@ answered_rank (c ∷ cs) = field_rank (c ∷ cs)
 abbrev pub answered_pin : List ℕ → Option (Option ℕ)
 answered_pin field = if bytes_eq field (codes "-1") then Some None else option_map (λ n. Some n) (answered_rank field)
 
+-- a directory with this inode number and this pin, if both have their form
 abbrev pub found_with : Option ℕ → Option (Option ℕ) → Option FoundPin
 found_with None pin = None
 found_with (Some inode) None = None

@@ -31,6 +31,7 @@ IsAfter true x more (Restorer s) = (s.task ≡ x) × (s.state ≡ (restorer_run 
 IsAfter false x more (Restorer s) = ⊥
 IsAfter true x more (Setter s) = ⊥
 
+-- what a machine is to do
 abbrev pub machine_task : PinMachine → Task
 machine_task (Setter s) = s.task
 machine_task (Restorer s) = s.task

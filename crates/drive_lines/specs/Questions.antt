@@ -26,6 +26,7 @@ abbrev pub pin_word : Option ℕ → List ℕ
 pin_word None = codes "-1"
 pin_word (Some rank) = decimal rank
 
+-- the word for why a driver stops
 abbrev pub trouble_word : Trouble → List ℕ
 trouble_word troubles.NoAnswer = codes "no-answer"
 trouble_word troubles.Refused = codes "refused"
@@ -36,6 +37,7 @@ trouble_word troubles.OtherDirectory = codes "other-directory"
 trouble_word troubles.PinChanged = codes "pin-changed"
 trouble_word troubles.TooSlow = codes "too-slow"
 
+-- how a driver ended, to the end of the line
 abbrev pub ending_text : Ending → List ℕ
 ending_text Done = last_text (codes "done")
 ending_text (Stopped trouble) = field_text (codes "stopped") ++ last_text (trouble_word trouble)

@@ -56,6 +56,7 @@ settings_of way batch poll longest = do
     pace = record { batch_inodes = batch_inodes; poll_seconds = poll_seconds; longest_wait = longest_wait };
   })
 
+-- the settings that were found in the words
 abbrev pub found_settings : List Row → Option DriveSettings
 found_settings rows =
     settings_of (first_of (codes "way") rows) (first_of (codes "batch-inodes") rows) (first_of (codes "poll") rows)

@@ -17,7 +17,8 @@ loop-init g c = (
   [],
   [],
   (Consumes-nil (g.R.Read.remaining c.args.host.now.reader), sym (append-nil c.args.host.now.taken)),
-  begins (g.R.Read.remaining c.args.host.now.reader) c.args.is_back c.args.task c.new-machine.result (g.W.Write.contents c.args.writer.now) c.new-machine.ensures,
+  begins (g.R.Read.remaining c.args.host.now.reader) c.args.is_back c.args.task c.new-machine.result (g.W.Write.contents c.args.writer.now)
+      c.new-machine.ensures,
 )
 
 pub returns-in_err-say_question-clause-cut : goal.returns-in_err-say_question-clause-cut
@@ -32,7 +33,8 @@ returns-in_err-say_question-clause-cut g c =
     let so = c.task.ensures ∙ task_is c.args.is_back c.args.task at.1 c.loop.machine at.3.machine_is in
     let part = subst (λ (t : Task). AppendsFront before after (question_text t.plan q)) so c.in_err-say_question.ensures.err in
     let is = c.question-question.ensures c.args.is_back c.args.task at.1 at.3.machine_is in
-    let cut : (bytes : List ℕ) × (more : List HostAnswer) × HasTaken g.R.Read.remaining c.args.host.now c.loop.host bytes × IsCutRun known c.args.is_back c.args.task old after bytes more =
+    let cut : (bytes : List ℕ) × (more : List HostAnswer) × HasTaken g.R.Read.remaining c.args.host.now c.loop.host bytes × IsCutRun known
+    c.args.is_back c.args.task old after bytes more =
     (at.0, at.1, at.2, cut_question known c.args.is_back c.args.task old right c.loop.machine c.loop.was_set before at.0 at.1 at.3 after q is part) in
     on_err _ _ cut
 
@@ -45,8 +47,13 @@ returns-in-Some-clause-done g c =
     let right = rights c.args.is_back c.args.task c.requires.mark c.setter.ensures.driven c.restorer.ensures.restored in
     let so = c.task.ensures ∙ task_is c.args.is_back c.args.task at.1 c.loop.machine at.3.machine_is in
     let whole = subst (λ (t : Task). Appends before after (question_text t.plan q)) so c.in_ok-say_question.ensures.ok in
-    let is = c.question-question.ensures c.args.is_back c.args.task at.1 at.3.machine_is in
-    (at.0, at.1, at.2, run_ends _ c.args.is_back c.args.task _ right c.loop.machine c.loop.was_set before at.0 at.1 at.3 after q c.in-Some.ending is (sym c.ending_of.ensures ∙ c.in-Some.is) whole)
+    let is = c.question-question.ensures c.args.is_back c.args.task at.1 at.3.machine_is in (
+      at.0,
+      at.1,
+      at.2,
+      run_ends _ c.args.is_back c.args.task _ right c.loop.machine c.loop.was_set before at.0 at.1 at.3 after q c.in-Some.ending is
+          (sym c.ending_of.ensures ∙ c.in-Some.is) whole,
+    )
 
 pub returns-in_err-answer-clause-cut : goal.returns-in_err-answer-clause-cut
 returns-in_err-answer-clause-cut g c =
@@ -61,7 +68,8 @@ returns-in_err-answer-clause-cut g c =
     let whole = subst (λ (t : Task). Appends before after (question_text t.plan q)) so c.in_ok-say_question.ensures.ok in
     let is = c.question-question.ensures c.args.is_back c.args.task at.1 at.3.machine_is in
     let tail = c.in_err-answer.ensures.err in
-    let cut : (bytes : List ℕ) × (more : List HostAnswer) × HasTaken g.R.Read.remaining c.args.host.now c.answer.new.self bytes × IsCutRun known c.args.is_back c.args.task old after bytes more = (
+    let cut : (bytes : List ℕ) × (more : List HostAnswer) × HasTaken g.R.Read.remaining c.args.host.now c.answer.new.self bytes × IsCutRun known
+    c.args.is_back c.args.task old after bytes more = (
       at.0 ++ tail.0,
       at.1,
       taken_more g.R.Read.remaining c.args.host.now c.loop.host c.answer.new.self at.0 tail.0 at.2 tail.1,
@@ -90,11 +98,13 @@ returns-in_err-say_note-clause-cut g c =
     let note_is = c.answer-note.ensures.note c.args.is_back c.args.task at.1 at.3.machine_is in
     let part = subst (λ (n : Note). AppendsFront mid after (note_text c.args.task.plan n)) note_is
     (subst (λ (t : Task). AppendsFront mid after (note_text t.plan c.answer-note.result)) then_so c.in_err-say_note.ensures.err) in
-    let cut : (bytes : List ℕ) × (more : List HostAnswer) × HasTaken g.R.Read.remaining c.args.host.now c.answer.new.self bytes × IsCutRun known c.args.is_back c.args.task old after bytes more = (
+    let cut : (bytes : List ℕ) × (more : List HostAnswer) × HasTaken g.R.Read.remaining c.args.host.now c.answer.new.self bytes × IsCutRun known
+    c.args.is_back c.args.task old after bytes more = (
       at.0 ++ piece.0,
       at.1 ++ a ∷ [],
       taken_more g.R.Read.remaining c.args.host.now c.loop.host c.answer.new.self at.0 piece.0 at.2 piece.1,
-      cut_note known c.args.is_back c.args.task old right c.loop.machine c.loop.was_set before at.0 at.1 at.3 q is on a mid whole (g.R.Read.remaining c.loop.host.reader) at.2.0 piece.0 piece.2 after part,
+      cut_note known c.args.is_back c.args.task old right c.loop.machine c.loop.was_set before at.0 at.1 at.3 q is on a mid whole
+          (g.R.Read.remaining c.loop.host.reader) at.2.0 piece.0 piece.2 after part,
     ) in
     on_err _ _ cut
 
@@ -119,12 +129,14 @@ loop-preserved g c =
     let note_is = c.answer-note.ensures.note c.args.is_back c.args.task at.1 at.3.machine_is in
     let part = subst (λ (n : Note). Appends mid after (note_text c.args.task.plan n)) note_is
     (subst (λ (t : Task). Appends mid after (note_text t.plan c.answer-note.result)) then_so c.in_ok-say_note.ensures.ok) in
-    let set_is : c.either-was_set.result ≡ (c.loop.was_set || is_set_question q) = c.either-was_set.ensures ∙ ap (λ (b : Bool). c.loop.was_set || b) c.is_set_question.ensures in (
+    let set_is : c.either-was_set.result ≡ (c.loop.was_set || is_set_question q) = c.either-was_set.ensures ∙ ap (λ (b : Bool). c.loop.was_set || b)
+    c.is_set_question.ensures in (
       at.0 ++ piece.0,
       at.1 ++ a ∷ [],
       taken_more g.R.Read.remaining c.args.host.now c.loop.host c.answer.new.self at.0 piece.0 at.2 piece.1,
       subst (λ (b : Bool). IsGoing known c.args.is_back c.args.task c.answer-note.new.self b old after (at.0 ++ piece.0) (at.1 ++ a ∷ [])) (sym set_is)
-          (goes_on known c.args.is_back c.args.task old right c.loop.machine c.loop.was_set before at.0 at.1 at.3 q is on a mid whole (g.R.Read.remaining c.loop.host.reader) at.2.0 piece.0 piece.2 c.answer-note.new.self after machine_so part),
+          (goes_on known c.args.is_back c.args.task old right c.loop.machine c.loop.was_set before at.0 at.1 at.3 q is on a mid whole
+          (g.R.Read.remaining c.loop.host.reader) at.2.0 piece.0 piece.2 c.answer-note.new.self after machine_so part),
     )
 
 pub returns-clause-cut : goal.returns-clause-cut

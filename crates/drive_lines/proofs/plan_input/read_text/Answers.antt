@@ -8,7 +8,8 @@ use Rattle.drive_lines.proofs.plan_input.read_text.Goals as goal
 pub loop-preserved : goal.loop-preserved
 loop-preserved g c =
     let got = subst
-    (λ (l : HostLine). (bytes : List ℕ) × HasTaken g.R.Read.remaining c.loop.host c.next_line.new.self bytes × IsHostLine (g.R.Read.remaining c.next_line.new.self.reader) bytes l)
+    (λ (l : HostLine). (bytes : List ℕ) × HasTaken g.R.Read.remaining c.loop.host c.next_line.new.self bytes × IsHostLine
+    (g.R.Read.remaining c.next_line.new.self.reader) bytes l)
     c.in-Whole.is c.in_ok-line.ensures.ok in
     let other : c.in-Whole.line.items ≢ codes "." = search rules in
     let items : c.push_line.new.text.items ≡ c.loop.text.items ++ last_text c.in-Whole.line.items = search rules in
