@@ -1,4 +1,4 @@
-# Completions of mdbal, mdbal_ceph and mdbal_check for bash: source this file, or put it into the folder of bash-completion.
+# Completions of mdbal, mdbal_ceph, mdbal_check and mdbal_drive for bash: source this file, or put it into the folder of bash-completion.
 _mdbal_words() { mapfile -t COMPREPLY < <(compgen -W "$1" -- "${COMP_WORDS[COMP_CWORD]}"); }
 # Names may have blanks; a folder goes on with a slash.
 _mdbal_files() { compopt -o filenames; mapfile -t COMPREPLY < <(compgen "$1" -- "${COMP_WORDS[COMP_CWORD]}"); }
@@ -28,6 +28,13 @@ _mdbal_check() {
         *) _mdbal_files -f ;;
     esac
 }
+_mdbal_drive() {
+    case ${COMP_WORDS[COMP_CWORD-1]} in
+        --batch-inodes|--poll|--longest-wait) return ;;
+    esac
+    _mdbal_words 'set restore --batch-inodes --poll --longest-wait --help --version'
+}
 complete -F _mdbal mdbal
 complete -F _mdbal_check mdbal_check
 complete -F _mdbal_ceph mdbal_ceph
+complete -F _mdbal_drive mdbal_drive
