@@ -81,25 +81,27 @@ class Host:
         time.sleep(int(seconds))
         return "waited"
 
-    def concerns(self, check: Any, daemons: List[str]) -> bool:
-        """Whether a warning is of this file system: not where each of its lines names a daemon or a file system, and another one."""
+    def counts(self, code: str, check: Any, daemons: List[str]) -> bool:
+        """Whether a health warning is to stop a run: an error, or one of file systems, unless each line of it names another one."""
+        if not code.startswith(("MDS_", "FS_")):
+            return check["severity"] == "HEALTH_ERR"
         named = [re.match(r"mds\.?(\S+)\(mds\.\d+\): |fs (\S+) ", it["message"]) for it in check.get("detail", [])]
         return not named or any(it is None or it[1] in daemons or it[2] == self.fs for it in named)
 
     def cluster(self) -> str:
         found = self.ceph("fs", "get", self.fs, "-f", "json")["mdsmap"]
         daemons = sorted((it["rank"], it["name"], it["state"]) for it in found["info"].values())
+        ranks = json.dumps([found["max_mds"], found["in"], daemons], separators=(",", ":"))
         checks = self.ceph("health", "detail", "-f", "json")["checks"]
-        ours = {code for code, it in checks.items() if code.startswith(("MDS_", "FS_")) and self.concerns(it, [name for _, name, _ in daemons])}
-        errors = {code for code, it in checks.items() if it["severity"] == "HEALTH_ERR" and not code.startswith(("MDS_", "FS_"))}
-        counted = sorted(ours | errors)
-        return " ".join(["cluster", escaped(json.dumps([found["max_mds"], found["in"], daemons], separators=(",", ":"))), *map(escaped, counted)])
+        counted = sorted(code for code, it in checks.items() if self.counts(code, it, [name for _, name, _ in daemons]))
+        return " ".join(["cluster", *map(escaped, [ranks, *counted])])
 
     def roots(self) -> str:
         ranks = self.ceph("fs", "get", self.fs, "-f", "json")["mdsmap"]["in"]
-        for rank in ranks:
-            for root in self.ceph("tell", f"mds.{self.fs}:{rank}", "get", "subtrees"):
-                if root["is_auth"] and (root["auth_second"] != -2 or root["export_pin"] in ranks and root["export_pin"] != root["auth_first"]):
+        for asked in ranks:
+            for root in self.ceph("tell", f"mds.{self.fs}:{asked}", "get", "subtrees"):
+                pin, rank = root["export_pin"], root["auth_first"]
+                if root["is_auth"] and (root["auth_second"] != -2 or pin in ranks and pin != rank):
                     return "moving"
         return "in-place"
 

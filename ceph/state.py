@@ -96,6 +96,7 @@ class Round:
         self.earlier = sorted(map(int, os.listdir(f"{self.state}/rounds")), reverse=True)
         self.number = max(self.earlier, default=0) + 1
         self.folder, self.plan = f"{self.state}/rounds/{self.number}", f"{self.state}/plan"
+        self.of_mount = ["--mount", asked.mount, "--timeout", str(asked.timeout)]
         os.mkdir(self.folder)
 
     def carry_out(self) -> Tuple[int, str]:
@@ -111,6 +112,11 @@ class Round:
             finally:
                 made.terminate()
                 made.wait()
+
+    def collect(self, name: str, *words: str) -> int:
+        """Collects into a folder of the round, anew where it is there."""
+        shutil.rmtree(f"{self.folder}/{name}", ignore_errors=True)
+        return self.run(f"{HERE}/collect", self.asked.fs, f"{self.folder}/{name}", *self.of_mount, *words)
 
     def said(self, begin: str = "", file: str = "log") -> str:
         """The last line of a file of the round that begins so; empty where there is none."""
