@@ -1,4 +1,5 @@
 """What mdbal_drive asks, answered by a cluster and a mount of it, for ceph/drive and ceph/balance."""
+import concurrent.futures
 import json
 import os
 import re
@@ -54,6 +55,11 @@ class Host:
         ran = subprocess.run(["ceph", *words], stdout=subprocess.PIPE, stderr=subprocess.DEVNULL, timeout=self.limit, check=True)
         return json.loads(ran.stdout.decode("latin-1"))
 
+    def side_by_side(self, *calls: List[str]) -> List[Any]:
+        """The answers to calls of ceph, each of which takes some tenths of a second."""
+        with concurrent.futures.ThreadPoolExecutor(len(calls)) as pool:
+            return list(pool.map(lambda words: self.ceph(*words), calls))
+
     def refusal(self) -> str:
         """Why the mount is not the root of the file system of the text; empty where nothing says so."""
         with open(self.text, encoding="ascii") as it:
@@ -89,20 +95,19 @@ class Host:
         return not named or any(it is None or it[1] in daemons or it[2] == self.fs for it in named)
 
     def cluster(self) -> str:
-        found = self.ceph("fs", "get", self.fs, "-f", "json")["mdsmap"]
+        answer, health = self.side_by_side(["fs", "get", self.fs, "-f", "json"], ["health", "detail", "-f", "json"])
+        found, checks = answer["mdsmap"], health["checks"]
         daemons = sorted((it["rank"], it["name"], it["state"]) for it in found["info"].values())
         ranks = json.dumps([found["max_mds"], found["in"], daemons], separators=(",", ":"))
-        checks = self.ceph("health", "detail", "-f", "json")["checks"]
         counted = sorted(code for code, it in checks.items() if self.counts(code, it, [name for _, name, _ in daemons]))
         return " ".join(["cluster", *map(escaped, [ranks, *counted])])
 
     def roots(self) -> str:
         ranks = self.ceph("fs", "get", self.fs, "-f", "json")["mdsmap"]["in"]
-        for asked in ranks:
-            for root in self.ceph("tell", f"mds.{self.fs}:{asked}", "get", "subtrees"):
-                pin, rank = root["export_pin"], root["auth_first"]
-                if root["is_auth"] and (root["auth_second"] != -2 or pin in ranks and pin != rank):
-                    return "moving"
+        found = self.side_by_side(*(["tell", f"mds.{self.fs}:{rank}", "get", "subtrees"] for rank in ranks))
+        for root in (root for roots in found for root in roots if root["is_auth"]):
+            if root["auth_second"] != -2 or root["export_pin"] in ranks and root["export_pin"] != root["auth_first"]:
+                return "moving"
         return "in-place"
 
     def store(self, lines: List[str]) -> str:
