@@ -152,8 +152,9 @@ class Round:
         if self.asked.metrics:
             os.umask(0o022)
             with open(f"{self.asked.metrics}.new", "wb") as it:
-                subprocess.run([f"{HERE}/rounds", "metrics", self.state, self.asked.fs], stdout=it, check=False)
-            os.rename(f"{self.asked.metrics}.new", self.asked.metrics)
+                ran = subprocess.run([f"{HERE}/rounds", "metrics", self.state, self.asked.fs], stdout=it, check=False)
+            if ran.returncode == 0:
+                os.rename(f"{self.asked.metrics}.new", self.asked.metrics)
         return status
 
 
