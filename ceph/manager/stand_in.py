@@ -46,11 +46,12 @@ class Cluster:
         self.fs, self.fsid = read('complete').decode().split()
         self.map = json.loads(read('fs.json'))['mdsmap']  # type: Dict[str, Any]
         self.map['fs_name'] = self.fs
-        self.interval = '0'
+        self.interval = '10'
         if os.path.exists(os.path.join(folder, 'balancer')):
             self.interval = read('balancer').decode().split('\n')[0]
         for number, it in enumerate(self.map['info'].values()):
             it.setdefault('gid', number)
+            it.setdefault('name', 'm{}'.format(number))
         self.id = 7
         self.roots = {rank: json.loads(read('subtrees.{}.json'.format(rank)).decode('latin-1')) for rank in self.map['in']}
         self.loads = {}  # type: Dict[int, List[bytes]]
@@ -60,11 +61,12 @@ class Cluster:
         self.taken = {rank: 0 for rank in self.loads}
         self.directories = read_listing(read('dirs')) if os.path.exists(os.path.join(folder, 'dirs')) else {}
         self.directories.setdefault(b'', Directory(1))
-        for dumps in self.loads.values():
-            for dump in dumps:
-                for path, inode in re.findall(r'"path":"((?:[^"\\]|\\.)*)","dirfrag":"(0x[0-9a-f]+)', dump.decode('latin-1')):
-                    name = json.loads('"' + path + '"').encode('latin-1')
-                    self.directories.setdefault(name, Directory(0)).inode = int(inode, 16)
+        for dump in (it for dumps in self.loads.values() for it in dumps):
+            for entry in json.loads(re.sub(r':-?inf\b', ':0', dump.decode('latin-1')))['dirfrags']:
+                name = entry['path'].encode('latin-1')
+                it = self.directories.setdefault(name, Directory(0x20000000000 + len(self.directories)))
+                if 'dirfrag' in entry:
+                    it.inode = int(entry['dirfrag'].split('.')[0], 16)
         self.directories[b''].inode = 1
         self.moved = {}       # type: Dict[bytes, int]  # pins that were set, by path
         self.slow_looks = 0   # so many looks at roots find the last pin's directory under way

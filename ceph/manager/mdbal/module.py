@@ -15,7 +15,7 @@ from mgr_module import CommandResult, MgrModule, Option
 from mgr_util import CephfsClient
 
 from . import programs, telling
-from .cli import Command
+from .cli import Registry, command
 from .cluster import Cluster, file_systems
 from .hands import Hands, NoAnswer
 from .jobs import Refused, Work
@@ -35,7 +35,7 @@ class Job(NamedTuple):
 
 
 class Module(MgrModule):
-    CLICommand = Command
+    CLICommand = Registry
     NOTIFY_TYPES: List[Any] = []
     MODULE_OPTIONS = [
         Option('interval', type='secs', default=300, min=30, runtime=True, desc='seconds from a round to the next, of file systems that are on'),
@@ -84,7 +84,7 @@ class Module(MgrModule):
 
     # Commands. None of them waits for anything.
 
-    @Command('fs mdbal status', perm='r')
+    @command('fs mdbal status', perm='r')
     def status(self, fs: Optional[str] = None, format: Optional[str] = None) -> Answer:
         """Show how far file systems are from balanced, and what mdbal does"""
         told = {}  # type: Dict[str, Any]
@@ -101,12 +101,12 @@ class Module(MgrModule):
             lines += telling.plain(name, told[name])
         return 0, '\n'.join(lines), ''
 
-    @Command('fs mdbal plan', perm='rw')  # it keeps the ranks busy
+    @command('fs mdbal plan', perm='rw')  # it keeps the ranks busy
     def plan(self, fs: str) -> Answer:
         """Read the heat of a file system and make a plan, which changes nothing"""
         return self.ask(Job('plan', fs))
 
-    @Command('fs mdbal show', perm='r')
+    @command('fs mdbal show', perm='r')
     def show(self, fs: str, format: Optional[str] = None) -> Answer:
         """Show the last plan of a file system"""
         record = self.records.get(fs)
@@ -117,7 +117,7 @@ class Module(MgrModule):
             return 0, json.dumps(dict(planned.plan.told, id=planned.plan.id)), ''
         return 0, telling.show(planned), ''
 
-    @Command('fs mdbal apply', perm='rw')
+    @command('fs mdbal apply', perm='rw')
     def apply(self, fs: str, id: str) -> Answer:
         """Set the pins of the plan with this id, or go on with it where it was stopped"""
         record = self.records.get(fs)
@@ -128,22 +128,22 @@ class Module(MgrModule):
             return -errno.EINVAL, '', '{} changes no pin'.format(id)
         return self.ask(Job('apply', fs, id))
 
-    @Command('fs mdbal rollback', perm='rw')
+    @command('fs mdbal rollback', perm='rw')
     def rollback(self, fs: str) -> Answer:
         """Restore the pins of before the last apply"""
         return self.ask(Job('rollback', fs))
 
-    @Command('fs mdbal check', perm='rw')
+    @command('fs mdbal check', perm='rw')
     def check(self, fs: str) -> Answer:
         """Compare the pins of mdbal with where the directories are"""
         return self.ask(Job('check', fs))
 
-    @Command('fs mdbal on', perm='rw')
+    @command('fs mdbal on', perm='rw')
     def on(self, fs: str) -> Answer:
         """Balance a file system by itself, a round each mgr/mdbal/interval seconds"""
         return self.ask(Job('on', fs))
 
-    @Command('fs mdbal off', perm='rw')
+    @command('fs mdbal off', perm='rw')
     def off(self, fs: str) -> Answer:
         """Leave a file system alone; a run stops after the pin under way. Pins stay"""
         record = self.records.get(fs)
@@ -151,7 +151,7 @@ class Module(MgrModule):
             record.is_to_stop = True
         return self.ask(Job('off', fs))
 
-    @Command('fs mdbal metrics', perm='r')
+    @command('fs mdbal metrics', perm='r')
     def metrics(self) -> Answer:
         """The last plans and rounds, in the text format of Prometheus"""
         return 0, telling.metrics([self.records[name] for name in sorted(self.records)]), ''
