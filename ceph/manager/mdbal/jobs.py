@@ -91,6 +91,9 @@ class Work:
     def judge(self, folder: str, own: Dict[bytes, int], entries: Dict[bytes, int]) -> None:
         """Whether the pins hold, by the program. A directory that is empty moves with its first entry, and does not count."""
         ranks = self.cluster.ranks()
+        if not own:
+            self.record.held, self.record.not_held = '', []
+            return
         counted = {path: rank for path, rank in own.items() if entries.get(path, 0) and rank in ranks}
         write(folder, 'counted', pins_list(counted))
         hold, lines = programs.check(folder, os.path.join(folder, 'counted'), self.limit)
@@ -110,7 +113,7 @@ class Work:
             self.judge(folder, own, entries)
         finally:
             shutil.rmtree(folder, ignore_errors=True)
-        return self.record.held
+        return self.record.held or 'no pin is set'
 
     # Pins
 
@@ -170,10 +173,10 @@ class Work:
         if ended != 'done':
             raise Trouble('{} {}: {}'.format(what, plan_id, record.stopped + run.why))
         try:
-            self.check()
+            held = self.check()
         except Trouble as trouble:
-            record.held = 'not checked: {}'.format(trouble)
-        return '{} {}: {} of {} changes; {}'.format(what, plan_id, run.changed, run.of, record.held)
+            held = record.held = 'not checked: {}'.format(trouble)
+        return '{} {}: {} of {} changes; {}'.format(what, plan_id, run.changed, run.of, held)
 
     def round(self) -> str:
         self.refuse()
