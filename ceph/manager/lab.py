@@ -214,6 +214,17 @@ def pins_of(lib: Any) -> Dict[bytes, int]:
     return found
 
 
+def home(lib: Any) -> None:
+    """Brings all directories of the trials to rank 0, without a pin: what is not pinned stays where it was."""
+    for path in pins_of(lib):
+        lib.setxattr(path, "ceph.dir.pin", b"-1", 0)
+    lib.setxattr(ROOT, "ceph.dir.pin", b"0", 0)
+    for rank in (1, 2):
+        until("all is at rank 0", 120, lambda: not [it for it in told("tell", "mds.lab:{}".format(rank), "get", "subtrees")
+                                                    if it["is_auth"] and it["dir"]["path"].startswith(ROOT)])
+    lib.setxattr(ROOT, "ceph.dir.pin", b"-1", 0)
+
+
 @contextlib.contextmanager
 def heated(names: List[bytes], fs: str = "lab") -> Iterator[None]:
     """Creates and removes a file in these directories in turn, some 150 times a second, in a process of its own."""

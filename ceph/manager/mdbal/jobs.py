@@ -208,7 +208,12 @@ class Run:
         self.work.record.planned = None  # it was made for other pins
 
     def end(self, ended: str) -> None:
-        self.keep(self.work.record.state.text, ended)
+        record = self.work.record
+        try:
+            self.keep(record.state.text, ended)
+        except Trouble as trouble:
+            record.stopped = '{}, and that is not stored: {}; {}'.format(ended, trouble, record.how_to_go_on())
+            raise
 
     def note(self, line: str) -> None:
         """What became of a change, or why the cluster gave no answer."""

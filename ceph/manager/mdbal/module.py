@@ -17,6 +17,7 @@ from mgr_util import CephfsClient
 from . import programs, telling
 from .cli import Registry, command
 from .cluster import Cluster, file_systems
+from .endpoint import Endpoint
 from .hands import Hands, NoAnswer
 from .jobs import Refused, Work
 from .record import Record
@@ -61,6 +62,7 @@ class Module(MgrModule):
         Option('call_limit', type='secs', default=60, min=1, runtime=True, desc='seconds within which a rank has to answer'),
         Option('most_directories', type='uint', default=200000, runtime=True,
                desc='ask no rank for its heat that caches more directories: it answers nobody else for 47 us each'),
+        Option('metrics_port', type='uint', default=0, max=65535, runtime=True, desc='port of the metrics for Prometheus; 0: none'),
     ]
 
     def __init__(self, *args: Any, **kwargs: Any) -> None:
@@ -72,6 +74,7 @@ class Module(MgrModule):
         self.refused = {}  # type: Dict[str, str]
         self.clients = {}  # type: Dict[str, Any]
         self.doing = 'starts'
+        self.endpoint = Endpoint(self.metrics_text)
 
     @staticmethod
     def can_run() -> Tuple[bool, str]:
@@ -154,7 +157,10 @@ class Module(MgrModule):
     @command('fs mdbal metrics', perm='r')
     def metrics(self) -> Answer:
         """The last plans and rounds, in the text format of Prometheus"""
-        return 0, telling.metrics([self.records[name] for name in sorted(self.records)]), ''
+        return 0, self.metrics_text(), ''
+
+    def metrics_text(self) -> str:
+        return telling.metrics([it for _, it in sorted(self.records.items())])
 
     def ask(self, job: Job) -> Answer:
         if job.fs not in file_systems(self):
@@ -199,6 +205,7 @@ class Module(MgrModule):
             try:
                 self.meet()
                 self.look()
+                self.endpoint.use(int(self.get_module_option('metrics_port')))
             except Exception:  # whatever it is, the thread goes on
                 self.log.exception('mdbal')
             try:
@@ -213,6 +220,7 @@ class Module(MgrModule):
 
     def shutdown(self) -> None:
         self.is_ending.set()
+        self.endpoint.use(0)
         super().shutdown()
 
     def meet(self) -> None:
@@ -227,9 +235,9 @@ class Module(MgrModule):
                     self.records[name] = Record(name, it['id'], self.store.load(it['id']))
                     self.records[name].watch.next = time.monotonic() + FIRST_ROUND
                     self.refused.pop(name, None)
+                    self.tell_health()
                 except Trouble as trouble:
                     self.refused[name] = str(trouble)
-                self.tell_health()
         if self.doing == 'starts':
             self.doing = ''
 

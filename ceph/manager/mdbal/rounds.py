@@ -16,10 +16,12 @@ def served(mgr: Any, mds_map: Dict[str, Any]) -> Dict[int, int]:
 
 
 def counter(mgr: Any, daemon: str, name: str) -> int:
-    """The last value of a daemon's counter; from Ceph 18 on those without labels have calls of their own."""
-    if hasattr(mgr, 'get_unlabeled_counter_latest'):
-        return int(mgr.get_unlabeled_counter_latest('mds', daemon, name))
-    return int(mgr.get_latest('mds', daemon, name))
+    """The last value of a daemon's counter; from Ceph 20 on those without labels have calls of their own."""
+    latest = mgr.get_unlabeled_counter_latest if hasattr(mgr, 'get_unlabeled_counter_latest') else mgr.get_latest
+    try:
+        return int(latest('mds', daemon, name))
+    except KeyError:  # it has told nothing yet
+        return 0
 
 
 class Watch:
