@@ -115,6 +115,8 @@ def start() -> None:
     ceph("mgr", "module", "enable", "mdbal")
     until("the module", 60, lambda: run("ceph", "fs", "mdbal", "status")[0] == 0)
     until("the module reads its state", 60, lambda: "not read" not in ceph("fs", "mdbal", "status"))
+    option("batch", "6")  # two directories
+    option("poll", "1")
 
 
 def ready() -> None:
