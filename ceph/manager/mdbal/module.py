@@ -267,6 +267,8 @@ class Module(MgrModule):
             record.say('{}: {}'.format(job.what, error), False)
             if not isinstance(error, Trouble):
                 self.log.exception(job.what)
+            if record.state.what and not record.state.ended and not record.stopped:
+                record.take(record.state)  # whatever ended the run, it is not done
             if job.what == 'round' and not isinstance(error, (Refused, programs.Stop)):
                 record.stopped = str(error)  # nobody reads the answer
         if job.what == 'round':
