@@ -1,0 +1,228 @@
+"""The jobs on a file system: plan, apply, rollback, check, and rounds. All of them run in the thread of the module."""
+import os
+import shutil
+import tempfile
+import time
+from typing import Any, Dict, List
+
+from . import programs
+from .cluster import Cluster
+from .collect import Collector, write
+from .programs import Host, Stop
+from .record import Planned, Record
+from .state import State
+from .texts import Trouble, id_of, listed, own_pins, pins_list, unescaped
+
+REST = 10  # seconds in which a pin that was just set may be read as its old value
+
+
+class Refused(Trouble):
+    """Nothing is wrong with mdbal, but it may not set pins now."""
+
+
+class Work:
+    """One job on a file system. mgr is the module."""
+
+    def __init__(self, mgr: Any, record: Record, cluster: Cluster) -> None:
+        self.mgr, self.record, self.cluster = mgr, record, cluster
+        self.limit = float(mgr.get_module_option('program_limit'))
+
+    def rest(self, seconds: float) -> None:
+        """Waits. Raises Stop where the manager shuts down, or `off` was asked for."""
+        while True:
+            part = min(seconds, 1)
+            if self.mgr.sleep(part):
+                raise Stop('the manager stops')
+            if self.record.is_to_stop:
+                raise Stop('it was turned off')
+            seconds -= part
+            if seconds <= 0:
+                return
+
+    def say(self, doing: str) -> None:
+        self.mgr.say(self.record.name, doing)
+
+    # Plan and check
+
+    def own(self) -> Dict[bytes, int]:
+        """The pins that are there by this program."""
+        text = self.record.text
+        if text.begun > text.certain:
+            self.cluster.hands.call(lambda lib: lib.sync_fs())
+            self.rest(REST)
+        return own_pins(self.record.state.text, self.cluster.pin_of)
+
+    def options(self, folder: str) -> List[str]:
+        """The options of mdbal_ceph."""
+        words = []  # type: List[str]
+        for name in ('least_gain', 'keep', 'most_pins', 'least_heat', 'most_inodes'):
+            value = int(self.mgr.get_module_option(name))
+            if value or name in ('least_gain', 'keep'):
+                words += ['--' + name.replace('_', '-'), str(value)]
+        mask = str(self.mgr.get_module_option('mask') or '')
+        leave = str(self.mgr.get_module_option('leave') or '').split()
+        if mask:
+            words.append('--mask=' + mask)
+        if leave:
+            write(folder, 'leave', b''.join(listed(unescaped(it)) + b'\n' for it in leave))
+            words += ['--leave', os.path.join(folder, 'leave')]
+        return words
+
+    def plan(self) -> str:
+        folder = tempfile.mkdtemp(prefix='mdbal-')
+        try:
+            own, list_of_own = self.own(), os.path.join(folder, 'own')
+            write(folder, 'own', pins_list(own))
+            collector = Collector(self.cluster, folder, self.rest, self.say)
+            collector.dumps(int(self.mgr.get_module_option('samples')), float(self.mgr.get_module_option('pause')),
+                            int(self.mgr.get_module_option('most_directories')))
+            entries = collector.listing(programs.paths_of(folder, list_of_own, self.limit))
+            collector.end()
+            self.judge(folder, own, entries)
+            self.say('planning')
+            plan = programs.plan(folder, list_of_own, self.options(folder), self.limit)
+        finally:
+            shutil.rmtree(folder, ignore_errors=True)
+        self.record.planned = Planned(plan, time.time(), self.cluster.word())
+        if not plan.is_proposed:
+            return 'nothing is proposed'
+        return 'plan {}: {} pins to change'.format(plan.id, len(plan.told['changes']))
+
+    def judge(self, folder: str, own: Dict[bytes, int], entries: Dict[bytes, int]) -> None:
+        """Whether the pins hold, by the program. A directory that is empty moves with its first entry, and does not count."""
+        ranks = self.cluster.ranks()
+        if not own:
+            self.record.held, self.record.not_held = '', []
+            return
+        counted = {path: rank for path, rank in own.items() if entries.get(path, 0) and rank in ranks}
+        write(folder, 'counted', pins_list(counted))
+        hold, lines = programs.check(folder, os.path.join(folder, 'counted'), self.limit)
+        empty = sum(1 for path in own if entries.get(path) == 0)
+        self.record.held = lines[-1] + (', {} directories are empty'.format(empty) if empty else '')
+        self.record.not_held = [] if hold else [''.join(chr(it) if 31 < it < 127 else '?' for it in line.encode('latin-1'))
+                                                for line in lines[:-1]] or [lines[-1]]
+
+    def check(self) -> str:
+        folder = tempfile.mkdtemp(prefix='mdbal-')
+        try:
+            own = self.own()
+            collector = Collector(self.cluster, folder, self.rest, self.say)
+            collector.dumps(0, float(self.mgr.get_module_option('pause')), 0)
+            entries = collector.listing(list(own))
+            collector.end()
+            self.judge(folder, own, entries)
+        finally:
+            shutil.rmtree(folder, ignore_errors=True)
+        return self.record.held or 'no pin is set'
+
+    # Pins
+
+    def look_at_balancer(self) -> None:
+        self.record.is_balancer_on = self.cluster.is_balancer_on()
+
+    def refuse(self) -> None:
+        """Raises Refused where no pin may be set now."""
+        why = self.cluster.why_not()
+        if not why:
+            self.look_at_balancer()
+            why = 'the balancer of Ceph is on' if self.record.is_balancer_on else ''
+        if why:
+            raise Refused(why)
+
+    def apply(self, plan_id: str) -> str:
+        """Sets the pins of the last plan, or goes on with the one that was not ended."""
+        planned, state = self.record.planned, self.record.state
+        if planned and planned.plan.id == plan_id:
+            if time.time() - planned.time > float(self.mgr.get_module_option('plan_age')):
+                raise Refused('the plan {} is too old: plan again'.format(plan_id))
+            if self.cluster.word() != planned.word:
+                raise Refused('the ranks changed since the plan {}: plan again'.format(plan_id))
+            text = planned.plan.text
+        elif state.text and state.ended != 'done' and id_of(state.text) == plan_id:
+            text = state.text
+        else:
+            raise Refused('{} is not the last plan'.format(plan_id))
+        self.refuse()
+        return self.drive('set', text)
+
+    def rollback(self) -> str:
+        if not self.record.text.begun:
+            raise Refused('nothing is set that could be restored')
+        why = self.cluster.why_not()
+        if why:
+            raise Refused(why)
+        return self.drive('restore', self.record.state.text)
+
+    def drive(self, what: str, text: str) -> str:
+        record, plan_id = self.record, id_of(text)
+        options = []  # type: List[str]
+        for name, word in (('batch', '--batch-inodes'), ('poll', '--poll'), ('wait', '--longest-wait')):
+            options += [word, str(int(self.mgr.get_module_option(name)))]
+        run = Run(self, what, text.count('\nchange '))
+        try:
+            ended = programs.drive(what, text, options, Host(self.cluster, self.rest, run.store, run.note))
+        except Trouble as trouble:
+            if self.mgr.is_ending.is_set():
+                raise  # another manager finds that it did not end
+            ended = 'stopped {}'.format(trouble)
+        finally:
+            self.mgr.progress(record.name, None)
+        if not run.is_stored:
+            raise Trouble('{} {}: {}, and no pin was changed'.format(what, plan_id, ended + run.why))
+        run.end(ended)
+        if ended != 'done':
+            raise Trouble('{} {}: {}'.format(what, plan_id, record.stopped + run.why))
+        try:
+            held = self.check()
+        except Trouble as trouble:
+            held = record.held = 'not checked: {}'.format(trouble)
+        return '{} {}: {} of {} changes; {}'.format(what, plan_id, run.changed, run.of, held)
+
+    def round(self) -> str:
+        self.refuse()
+        said = self.plan()
+        planned = self.record.planned
+        assert planned
+        return self.apply(planned.plan.id) if planned.plan.is_proposed else said
+
+
+class Run:
+    """What is kept and told of a run of mdbal_drive."""
+
+    def __init__(self, work: Work, what: str, of: int) -> None:
+        self.work, self.what, self.of = work, what, of
+        self.is_stored = False
+        self.changed = 0
+        self.why = ''
+        work.record.settled = 0
+
+    def keep(self, text: str, ended: str) -> None:
+        record, state = self.work.record, State()
+        state.on, state.text, state.what, state.ended, state.time = record.state.on, text, self.what, ended, int(time.time())
+        self.work.mgr.store.save(record.number, state)
+        record.take(state, is_running=not ended)
+
+    def store(self, text: str) -> None:
+        self.keep(text, '')
+        self.is_stored = True
+        self.work.record.planned = None  # it was made for other pins
+
+    def end(self, ended: str) -> None:
+        record = self.work.record
+        try:
+            self.keep(record.state.text, ended)
+        except Trouble as trouble:
+            record.stopped = '{}, and that is not stored: {}; {}'.format(ended, trouble, record.how_to_go_on())
+            raise
+
+    def note(self, line: str) -> None:
+        """What became of a change, or why the cluster gave no answer."""
+        word, _, more = line.partition(' ')
+        self.work.mgr.log.info('%s: %s', self.work.record.name, line)
+        if word in ('set', 'gone', 'left'):
+            self.changed += word == 'set'
+            self.work.record.settled += 1
+            self.work.say('{}: {} of {} changes'.format(self.what, self.work.record.settled, self.of))
+            self.work.mgr.progress(self.work.record.name, min(self.work.record.settled / max(self.of, 1), 1.0))
+        else:
+            self.why = ' ({})'.format(more)
