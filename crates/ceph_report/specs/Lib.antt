@@ -4,6 +4,7 @@ pub mod Json
 pub mod Left
 pub mod Moves
 pub mod Picture
+pub mod PlanCheck
 pub mod Report
 pub mod Roots
 pub mod Spreading

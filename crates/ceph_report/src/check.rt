@@ -28,16 +28,23 @@ impl PinCheck {
     }
 }
 
-/// The rank of a directory's pin, if the directory lies at another one or at several.
-fn astray(directory: &Directory) -> Option<Rank>
-    ensures { result ≡ check.astray directory.entry.now }
+/// The rank of a pin, if the directory lies at another one or at several.
+fn astray_from(directory: &Directory, pin: Option<Rank>) -> Option<Rank>
+    ensures { result ≡ check.astray_of pin directory.entry.now }
 {
-    let rank = directory.earlier?;
+    let rank = pin?;
     if directory.is_spread || directory.now != rank {
         Some(rank)
     } else {
         None
     }
+}
+
+/// The same of the pin that this program set.
+fn astray(directory: &Directory) -> Option<Rank>
+    ensures { result ≡ check.astray directory.entry.now }
+{
+    astray_from(directory, directory.earlier)
 }
 
 /// Adds the rank that a directory is at.
@@ -63,14 +70,26 @@ fn push_astray(text: &mut Vec<u8>, directory: &Directory, rank: Rank) -> Result<
     push_place(text, directory)
 }
 
+/// Adds the line of a directory, if this pin does not hold it.
+pub(crate) fn push_astray_from(
+    text: &mut Vec<u8>,
+    directory: &Directory,
+    pin: Option<Rank>,
+) -> Result<(), AllocError>
+    ensures { OnOk result (text.new.items
+        ≡ text.old.items ++ check.astray_line_of directory.entry.now (check.astray_of pin directory.entry.now)) }
+{
+    match astray_from(directory, pin) {
+        Some(rank) => push_astray(text, directory, rank),
+        None => Ok(()),
+    }
+}
+
 /// Adds the line of a directory, if its pin does not hold it.
 fn push_directory(text: &mut Vec<u8>, directory: &Directory) -> Result<(), AllocError>
     ensures { OnOk result (text.new.items ≡ text.old.items ++ astray_line directory.entry.now) }
 {
-    match astray(directory) {
-        Some(rank) => push_astray(text, directory, rank),
-        None => Ok(()),
-    }
+    push_astray_from(text, directory, directory.earlier)
 }
 
 /// Adds the lines of all directories that their pins do not hold.
