@@ -1,3 +1,4 @@
+pub mod Gathered
 pub mod Kept
 pub mod LeftRows
 pub mod Ours
@@ -5,3 +6,4 @@ pub mod OwnLines
 pub mod Parents
 pub mod Simple
 pub mod Untouched
+pub mod Written

@@ -1,12 +1,17 @@
 -- The command line of `mdbal_ceph`, as a command of `clap`.
-use Rattle.std.specs.Prelude.{List, [], ◌∷◌, Some, None, codes, Option, true, is_some}
+use Rattle.std.specs.Prelude.{◌≡◌, ◌⊎◌, ℕ, List, [], ◌∷◌, Some, None, codes, Option, true, is_some}
 use Rattle.std.specs.Prelude.{if◌then◌else◌}
 use Rattle.std.specs.List.{fold}
 use Rattle.std.specs.Option.{option_map}
-use Rattle.clap.specs.Words.{App, Rule, Text, matches_of, new_app, new_rule, with_rule}
+use Rattle.clap.specs.Words.{App, Rule, Text, fault_of, matches_of, new_app, new_rule, with_rule}
 use Rattle.clap.specs.declared.builder.action.ArgAction.TheVariants.{SetTrue}
+use Rattle.command_line.specs.Outcome.{Explains}
+use Rattle.command_line.specs.declared.options_error.OptionsError.{OptionsError}
+use Rattle.command_line.specs.declared.options_error.OptionsError.TheVariants.{Help, Memory, Refused as Denied, Version}
 use Rattle.mdbal_ceph.specs.declared.settings.PlanOption.{PlanOption}
 use Rattle.mdbal_ceph.specs.declared.settings.PlanSettings.{PlanSettings}
+use Rattle.mdbal_ceph.specs.declared.settings.Refused.{Refused}
+use Rattle.mdbal_ceph.specs.declared.settings.Refused.TheVariants.{Value, Words}
 use Rattle.mdbal_ceph.specs.Options.{AreRead}
 
 -- `DIR`, which has to be there
@@ -56,3 +61,20 @@ mdbal_ceph = fold with_rule (with_rule plan_command folder_rule) option_rules
 -- the settings are those of the words of the command line
 abbrev pub AreSettings : List Text → PlanSettings → Type 0
 AreSettings words settings = AreRead (matches_of mdbal_ceph words) settings
+
+-- why the words give no settings: `clap` refuses them, or they ask for the help or the version; or `clap` takes them,
+-- and the value of an option has another form
+abbrev pub GivesNoSettings : List Text → Refused → Type 0
+GivesNoSettings words (Words error) = Explains (fault_of mdbal_ceph words) error
+GivesNoSettings words (Value option) = fault_of mdbal_ceph words ≡ []
+
+-- the status then: 0 where the help or the version was written, 1 where it could not be, and otherwise 2
+abbrev pub AnswersAs : OptionsError → ℕ → Type 0
+AnswersAs (Help error) status = (status ≡ 0) ⊎ (status ≡ 1)
+AnswersAs (Version error) status = (status ≡ 0) ⊎ (status ≡ 1)
+AnswersAs Memory status = status ≡ 2
+AnswersAs (Denied error) status = status ≡ 2
+
+abbrev pub EndsAs : Refused → ℕ → Type 0
+EndsAs (Words error) status = AnswersAs error status
+EndsAs (Value option) status = status ≡ 2

@@ -1,6 +1,9 @@
 pub mod Collections
 pub mod CommandLine
 pub mod DriverPlan
+pub mod Dumps
+pub mod Exit
+pub mod Folder
 pub mod Named
 pub mod Options
 pub mod Outcomes

@@ -1,27 +1,30 @@
 -- The options as they are read of the words, and what is planned by them.
 use Rattle.std.specs.Prelude.{◌≡◌, ◌*◌, ◌-◌, ◌^◌, ℕ, Bool, true, false, List, [], Option, Some, None, codes}
-use Rattle.std.specs.Prelude.{is_some, length, not, Vec}
+use Rattle.std.specs.Prelude.{length, not, Vec}
 use Rattle.std.specs.Prelude.{string_bytes}
 use Rattle.std.specs.Prelude.{if◌then◌else◌}
 use Rattle.std.specs.Global.{Global}
-use Rattle.std.specs.Option.{option_map, option_map_or, unwrap_or}
+use Rattle.std.specs.Option.{option_map, unwrap_or}
 use Rattle.std.specs.Str.{bytes_eq}
 use Rattle.std.specs.Str.Parse.{digits_value, without_leading_plus}
 use Rattle.clap.specs.Words.{Row, first_of, one_of}
+use Rattle.ceph_dumps.specs.PathList.{path_bytes}
 use Rattle.ceph_dumps.specs.declared.own_list.OwnPin.{OwnPin}
 use Rattle.ceph_plan.specs.declared.choice.PartCount.{PartCount}
 use Rattle.ceph_plan.specs.declared.choice.Wanted.{Wanted}
 use Rattle.ceph_plan.specs.declared.choice.PartCount.TheVariants.{AtMost, Auto}
 use Rattle.ceph_report.specs.Check.{all_hold, check_text}
 use Rattle.ceph_report.specs.declared.check.PinCheck.{PinCheck}
-use Rattle.ceph_snapshot.specs.declared.directory.Directory.{Directory}
-use Rattle.ceph_snapshot.specs.Snapshots.{IsSnapshot}
+use Rattle.ceph_snapshot.specs.declared.snapshot.Snapshot.{Snapshot}
 use Rattle.mdbal_ceph.specs.declared.collected.Collected.{Collected}
 use Rattle.mdbal_ceph.specs.declared.outcome.Outcome.{Outcome}
 use Rattle.mdbal_ceph.specs.declared.settings.Least.{Least}
 use Rattle.mdbal_ceph.specs.declared.settings.PlanSettings.{PlanSettings}
 use Rattle.mdbal_ceph.specs.declared.writing.PlanOutput.{PlanOutput}
-use Rattle.mdbal_ceph.specs.Collections.{HasOurPins, listed_pins}
+use Rattle.mdbal_ceph.specs.Collections.{AreLeftOf, HasOurPins, IsCollected, IsOwnOf, IsSnapshotOf, listed_pins}
+use Rattle.mdbal_ceph.specs.Collections.{pins_listed}
+use Rattle.mdbal_ceph.specs.Dumps.{AreRanksOf, DumpValue, Dumps, all_seen, root_facts}
+use Rattle.mdbal_ceph.specs.Folder.{FileContent}
 use Rattle.mdbal_ceph.specs.Named.{paths0}
 use Rattle.mdbal_ceph.specs.Outcomes.{IsOutcome}
 use Rattle.mdbal_ceph.specs.Usable.{AreUsable, asked_mask}
@@ -96,20 +99,19 @@ wanted_by settings balances =
       rests = not balances;
     }
 
--- what is written is that of a plan of what was collected: of its directories, by the settings, for the ranks of the
--- mask that is asked for or else of the cluster's own, with the list of pins where one is asked for, with directories
--- that are to be left only where a list of them is, and with all that has no pin staying where it is if the balancer is
--- off
-pub record IsPlanWritten (settings : PlanSettings) (output : PlanOutput) : Type 0 where
+-- what is written is that of a plan of what was collected, which is read of the files that the settings name: of its
+-- directories, by the settings, for the ranks of the mask that is asked for or else of the cluster's own, with the
+-- directories that are to be left, and with all that has no pin staying where it is if the balancer is off
+pub record IsPlanWritten (reads : List ℕ → FileContent → Type 0) (says : List ℕ → DumpValue → Type 0)
+    (settings : PlanSettings) (output : PlanOutput) : Type 0 where
   pub collected : Collected
   pub outcome : Outcome
-  pub own : is_some collected.own ≡ is_some settings.own
-  pub leave : List (List ℕ)
-  pub none_left : is_some settings.leave ≡ false → leave ≡ []
-  pub snapshot : IsSnapshot collected.snapshot
+  pub leave : List (Vec ℕ Global)
+  pub read : IsCollected reads says settings.folder.now (option_map (λ name. name.now) settings.own) collected
+  pub left : AreLeftOf reads (option_map (λ name. name.now) settings.leave) leave
   pub ours : HasOurPins collected
   pub ranks : AreUsable settings.mask (option_map string_bytes collected.cluster.mask) collected.cluster outcome.ranks
-  pub of : IsOutcome collected.snapshot.directories.items collected.snapshot.spread.items leave
+  pub of : IsOutcome collected.snapshot.directories.items collected.snapshot.spread.items (path_bytes leave)
       settings.subvolumes (wanted_by settings collected.balances) outcome
   pub there : outcome.there ≡ collected.cluster.ranks
   pub active : outcome.active ≡ collected.cluster.active
@@ -123,17 +125,24 @@ pub record IsPlanWritten (settings : PlanSettings) (output : PlanOutput) : Type 
 abbrev pub listed_count : Collected → ℕ
 listed_count collected = length (listed_pins collected)
 
--- what is reported is how the pins of the list hold in what was collected
-pub record IsChecked (found : PinCheck) : Type 0 where
+-- what is reported is how the pins of the list of this name hold in what was collected
+pub record IsChecked (reads : List ℕ → FileContent → Type 0) (says : List ℕ → DumpValue → Type 0) (folder : List ℕ)
+    (own : List ℕ) (found : PinCheck) : Type 0 where
   pub collected : Collected
-  pub own : is_some collected.own ≡ true
+  pub read : IsCollected reads says folder (Some own) collected
   pub ours : HasOurPins collected
   pub text : found.text.items ≡ check_text collected.snapshot.directories.items (listed_count collected)
   pub holds : found.all_hold ≡ all_hold collected.snapshot.directories.items (listed_count collected)
 
--- what is printed are the paths of the directories that the dumps name, and of the list of pins where one is asked for
-pub record AreNamed (is_asked : Bool) (text : List ℕ) : Type 0 where
-  pub directories : List Directory
-  pub own : Option (Vec OwnPin Global)
-  pub asked : is_some own ≡ is_asked
-  pub paths : text ≡ paths0 directories (option_map_or (λ pins. pins.items) own [])
+-- what is printed are the paths of the directories that the dumps of the ranks name, and of the list of pins of this
+-- name where one is named
+pub record AreNamed (reads : List ℕ → FileContent → Type 0) (says : List ℕ → DumpValue → Type 0) (folder : List ℕ)
+    (own : Option (List ℕ)) (text : List ℕ) : Type 0 where
+  pub dumps : Dumps
+  pub dumps_of : AreRanksOf reads says folder dumps
+  pub snapshot : Snapshot
+  pub directories : IsSnapshotOf (all_seen dumps.ranks) (root_facts dumps.ranks) false false dumps.count []
+      dumps.cluster.ranks snapshot
+  pub pins : Option (Vec OwnPin Global)
+  pub pins_of : IsOwnOf reads own pins
+  pub paths : text ≡ paths0 snapshot.directories.items (pins_listed pins)

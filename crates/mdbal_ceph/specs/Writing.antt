@@ -146,3 +146,12 @@ pub record IsWritten (settings : PlanSettings) (outcome : Outcome) (output : Pla
   pub text : IsTold outcome settings.is_json output.is_proposed (is_idle settings.least outcome) output.text.items
   pub asked : is_some output.pins ≡ is_some settings.pins
   pub pins : IfSome output.pins (ArePinFiles settings outcome (proposed_changes outcome output.is_proposed))
+
+-- the script makes the changes that the JSON lists, in their order, and the way back undoes those that it lists as such
+pub record HaveSameChanges (settings : PlanSettings) (outcome : Outcome) (text : List ℕ) (is_proposed : Bool)
+    (files : PinFiles) : Type 0 where
+  pub changes : List PinChange
+  pub facts : Facts
+  pub told : text ≡ json facts changes (inverted outcome.decision.proposal.rows.items changes) is_proposed
+  pub script : files.script.items ≡ script_of settings outcome changes
+  pub back : files.back.items ≡ script_of settings outcome (inverted outcome.decision.proposal.rows.items changes)

@@ -1,27 +1,39 @@
-//! Reads the files that `ceph/collect` wrote.
-ghost use Rattle.std.specs.Prelude.{◌≡◌, ◌<◌, [], IfOk, false, is_some};
-ghost use Rattle.std.specs.Option.{option_map_or};
+//! Gathers what the files of a folder say that `ceph/collect` wrote.
+ghost use Rattle.std.specs.Prelude.{◌≡◌, ◌<◌, ◌++◌, [], IfOk, List, OnOk, Option, codes, false, is_some};
+ghost use Rattle.std.specs.Option.{option_map, option_map_or};
+ghost use Rattle.ceph_dumps.specs.Listing.{AreValuesListed};
+ghost use Rattle.ceph_dumps.specs.declared.listing.ListedDir.{ListedDir};
+ghost use Rattle.ceph_dumps.specs.declared.loads.FragmentHeat.{FragmentHeat};
+ghost use Rattle.ceph_dumps.specs.declared.subtrees.SubtreeRoot.{SubtreeRoot};
+ghost use Rattle.ceph_snapshot.specs.Facts.{Fact, roots_in};
+ghost use Rattle.ceph_snapshot.specs.Sightings.{PathHeat, seen_in};
 ghost use Rattle.ceph_snapshot.specs.Snapshots.{IsSnapshot};
-ghost use Rattle.mdbal_ceph.specs.Collections.{HasOurPins};
+ghost use Rattle.mds_types.specs.declared.limits.TheConstants.{RANK_LIMIT};
+ghost use Rattle.mdbal_ceph.specs.Collections.{Adds, AreLeftOf, HasOurPins, IsCollected, HasGathered, IsOwnOf};
+ghost use Rattle.mdbal_ceph.specs.Collections.{pins_listed};
+ghost use Rattle.mdbal_ceph.specs.Dumps.{AreInodes, AreRankDumps, IsLoadsFile, IsRankDump, IsRootsFile, IsSampleCount};
+ghost use Rattle.mdbal_ceph.specs.Dumps.{RankDump, all_seen, file_in, listed_facts, loads_file, rank_facts, rank_seen};
+ghost use Rattle.mdbal_ceph.specs.Dumps.{ranks_below, ranks_if, root_facts, subtrees_file};
+ghost use Rattle.mdbal_ceph.specs.Folder.{IsInFileIfAny};
 ghost use Rattle.mdbal_ceph.specs.Options.{AreNamed};
 
+use crate::dump_reader::DumpReader;
+use crate::folder::Folder;
+use crate::inputs::Inputs;
 use crate::named::paths0;
 use crate::progress::Progress;
-use anyhow::{Context, Error, bail};
-use ceph_dumps::{
-    DumpError, FileSystem, FileSystemRanks, OwnPin, read_balancer, read_cluster, read_complete,
-    read_inodes, read_listing, read_loads, read_own_list, read_path_list, read_subtrees,
+use crate::source::{
+    Source, balances, cluster_of, file_system_of, listing_of, loads_file, loads_of, mounted_of,
+    own_list_of, path_list_of, roots_of, sample_count, subtrees_file,
 };
-use ceph_snapshot::{Gathering, Mounted, Snapshot};
+use anyhow::Error;
+use ceph_dumps::{FileSystem, FileSystemRanks, OwnPin};
+use ceph_snapshot::{Gathering, Snapshot};
 use mds_types::limits::RANK_LIMIT;
 use mds_types::{Rank, RankSet};
 use std::alloc::Global;
-use std::io::ErrorKind;
-use std::rt::{Clock, Files};
-use std::{fs, io};
-
-/// The most samples that are read.
-const SAMPLE_LIMIT: u64 = 1000;
+use std::io::Write;
+use std::rt::Clock;
 
 /// What was collected.
 #[derive(Drop)]
@@ -40,62 +52,25 @@ pub struct Collected {
     pub snapshot: Snapshot,
 }
 
-/// What a file says, if it is there.
-fn read_if_there<R, T, F>(rt: &R, path: &str, read: F) -> Result<Option<T>, Error>
-where
-    R: Files + AllocGlobal,
-    F: FnOnce(Global, &[u8]) -> Result<T, DumpError> + Copy,
-    requires { F.IsAlwaysCallable read }
-{
-    let bytes: io::Result<Vec<u8>> = fs::read(rt, path);
-    match bytes {
-        Ok(bytes) => {
-            let found = read(rt.alloc(), bytes.as_slice()).map(Some);
-            found.context(format_args!("{path}"))
-        }
-        Err(error) if error.kind() == ErrorKind::NotFound => Ok(None),
-        Err(error) => Err(error).context(format_args!("{path}")),
-    }
-}
-
-/// What a file says that has to be there.
-fn read_file<R, T, F>(rt: &R, path: &str, read: F) -> Result<T, Error>
-where
-    R: Files + AllocGlobal,
-    F: FnOnce(Global, &[u8]) -> Result<T, DumpError> + Copy,
-    requires { F.IsAlwaysCallable read }
-{
-    match read_if_there(rt, path, read)? {
-        Some(found) => Ok(found),
-        None => bail!("{path}: there is no such file"),
-    }
-}
-
-/// Where dumps are read, and how they are named over a mount, where inode numbers were listed.
-#[derive(Drop)]
-struct Source<'a> {
-    folder: &'a str,
-    mounted: Option<Mounted>,
-    /// How many samples of heat each rank gave.
-    samples: u64,
-}
-
-/// The inode numbers that were listed over a mount, where there is such a file.
-fn mounted<R: Files + AllocGlobal>(rt: &R, folder: &str) -> Result<Option<Mounted>, Error> {
-    let path = format!(in rt.alloc(); "{folder}/inodes")?;
-    match read_if_there(rt, path.as_str(), read_inodes)? {
-        Some(listing) => Ok(Some(Mounted::new(rt.alloc(), listing)?)),
-        None => Ok(None),
-    }
-}
-
 /// The source of this folder.
-fn source_of<'a, R: Files + AllocGlobal>(rt: &R, folder: &'a str) -> Result<Source<'a>, Error>
-    ensures { IfOk result (λ source. 0 < source.samples) }
+fn source_of<'a, F: Folder, D: DumpReader>(
+    files: &'a F,
+    reader: D,
+    alloc: Global,
+    folder: &'a str,
+) -> Result<Source<'a, F, D>, Error>
+    ensures files { IfOk result (λ source. source.files.now ≡ files.entry.now) }
+    ensures folder { IfOk result (λ source. source.folder.now ≡ folder.entry.now) }
+    ensures numbers { IfOk result (λ source. IsInFileIfAny (F.reads files.entry.now) AreInodes
+        (file_in folder.entry.now (codes "inodes")) source.mounted) }
+    ensures count { IfOk result (λ source. IsSampleCount (F.reads files.entry.now) folder.entry.now source.samples) }
 {
-    let mounted = mounted(rt, folder)?;
-    let samples = sample_count(rt, folder)?;
+    let mounted = mounted_of(files, alloc, folder)?;
+    let samples = sample_count(files, alloc, folder)?;
     Ok(Source {
+        files,
+        reader,
+        alloc,
         folder,
         mounted,
         samples,
@@ -103,157 +78,184 @@ fn source_of<'a, R: Files + AllocGlobal>(rt: &R, folder: &'a str) -> Result<Sour
 }
 
 /// Adds the roots that a rank has.
-fn add_subtrees<R: Files + AllocGlobal>(
-    rt: &R,
+fn add_subtrees<F: Folder, D: DumpReader>(
     gathering: &mut Gathering,
-    source: &Source<'_>,
+    source: &Source<'_, F, D>,
     rank: Rank,
-) -> Result<(), Error> {
-    let folder = source.folder;
-    let path = format!(in rt.alloc(); "{folder}/subtrees.{}.json", rank.number())?;
-    let mut roots = read_file(rt, path.as_str(), read_subtrees)?;
-    if let Some(mounted) = &source.mounted {
-        mounted.name_roots(rt.alloc(), roots.as_mut_slice())?;
-    }
-    let added = gathering.add_subtrees(rank, roots.as_slice());
-    added.map_err(Error::from)
+) -> Result<(), Error>
+    ensures { OnOk result ((roots : List SubtreeRoot) × IsRootsFile (F.reads source.now.files.now) D.says
+        source.now.mounted (subtrees_file source.now.folder.now rank) roots
+        × Adds gathering.old gathering.new [] (roots_in rank roots)) }
+{
+    let path = subtrees_file(source.alloc, source.folder, rank.number())?;
+    let roots = roots_of(source, path.as_str())?;
+    gathering.add_subtrees(rank, roots.as_slice())?;
+    Ok(())
 }
 
 /// Adds a sample of a rank's heat.
-fn add_loads<R: Files + AllocGlobal + Clock + Eprint>(
-    rt: &R,
-    progress: &mut Progress,
+fn add_loads<F: Folder, D: DumpReader, C: Clock, E: Write>(
+    progress: &mut Progress<'_, C>,
+    errors: &mut E,
     gathering: &mut Gathering,
-    source: &Source<'_>,
+    source: &Source<'_, F, D>,
     rank: Rank,
     sample: u64,
-) -> Result<(), Error> {
-    let folder = source.folder;
-    let path = format!(in rt.alloc(); "{folder}/loads.{}.{sample}.json", rank.number())?;
-    progress.tell(rt, path.as_str());
-    let mut loads = read_file(rt, path.as_str(), read_loads)?;
-    if let Some(mounted) = &source.mounted {
-        mounted.name_fragments(rt.alloc(), loads.as_mut_slice())?;
-    }
-    let added = gathering.add_loads(rank, loads.as_slice());
-    added.map_err(Error::from)
+) -> Result<(), Error>
+    ensures { OnOk result ((loads : List FragmentHeat) × IsLoadsFile (F.reads source.now.files.now) D.says
+        source.now.mounted (loads_file source.now.folder.now rank sample) loads
+        × Adds gathering.old gathering.new (seen_in rank loads) []) }
+{
+    let path = loads_file(source.alloc, source.folder, rank.number(), sample)?;
+    let name = path.as_str();
+    progress.tell(errors, name);
+    let loads = loads_of(source, name)?;
+    gathering.add_loads(rank, loads.as_slice())?;
+    Ok(())
 }
 
 /// Adds the dumps of a rank.
-fn add_rank<R: Files + AllocGlobal + Clock + Eprint>(
-    rt: &R,
-    progress: &mut Progress,
+fn add_rank<F: Folder, D: DumpReader, C: Clock, E: Write>(
+    progress: &mut Progress<'_, C>,
+    errors: &mut E,
     gathering: &mut Gathering,
-    source: &Source<'_>,
+    source: &Source<'_, F, D>,
     rank: Rank,
-) -> Result<(), Error> {
-    add_subtrees(rt, gathering, source, rank)?;
-    for sample in 1..=source.samples {
-        add_loads(rt, progress, gathering, source, rank, sample)?;
+) -> Result<(), Error>
+    ensures { OnOk result ((dump : RankDump) × (dump.rank ≡ rank) × IsRankDump (F.reads source.now.files.now) D.says
+        source.now.mounted source.now.folder.now source.now.samples dump
+        × Adds gathering.old gathering.new (rank_seen dump) (rank_facts dump)) }
+{
+    add_subtrees(gathering, source, rank)?;
+    for sample in 0..source.samples {
+        add_loads(progress, errors, gathering, source, rank, sample + 1)?;
+    }
+    Ok(())
+}
+
+/// Adds the dumps of the rank of this number, if the set has it.
+fn add_rank_if_in<F: Folder, D: DumpReader, C: Clock, E: Write>(
+    progress: &mut Progress<'_, C>,
+    errors: &mut E,
+    gathering: &mut Gathering,
+    source: &Source<'_, F, D>,
+    ranks: RankSet,
+    number: u8,
+) -> Result<(), Error>
+    requires { number < RANK_LIMIT }
+    ensures { OnOk result ((dumps : List RankDump) × AreRankDumps (F.reads source.now.files.now) D.says
+        source.now.mounted source.now.folder.now source.now.samples (ranks_if ranks number) dumps
+        × Adds gathering.old gathering.new (all_seen dumps) (root_facts dumps)) }
+{
+    let Some(rank) = Rank::new(number) else {
+        unreachable!();
+    };
+    if !ranks.has(rank) {
+        return Ok(());
+    }
+    add_rank(progress, errors, gathering, source, rank)?;
+    Ok(())
+}
+
+/// Adds the dumps of all ranks.
+fn add_ranks<F: Folder, D: DumpReader, C: Clock, E: Write>(
+    progress: &mut Progress<'_, C>,
+    errors: &mut E,
+    gathering: &mut Gathering,
+    source: &Source<'_, F, D>,
+    ranks: RankSet,
+) -> Result<(), Error>
+    ensures { OnOk result ((dumps : List RankDump) × AreRankDumps (F.reads source.now.files.now) D.says
+        source.now.mounted source.now.folder.now source.now.samples (ranks_below ranks RANK_LIMIT) dumps
+        × Adds gathering.old gathering.new (all_seen dumps) (root_facts dumps)) }
+{
+    for number in 0..RANK_LIMIT {
+        add_rank_if_in(progress, errors, gathering, source, ranks, number)?;
+    }
+    Ok(())
+}
+
+/// Reads the dumps of these ranks.
+fn read_dumps<F: Folder, D: DumpReader, C: Clock, E: Write>(
+    progress: &mut Progress<'_, C>,
+    errors: &mut E,
+    source: &Source<'_, F, D>,
+    ranks: RankSet,
+) -> Result<Gathering, Error>
+    ensures { IfOk result (λ gathering. (dumps : List RankDump) × AreRankDumps (F.reads source.now.files.now) D.says
+        source.now.mounted source.now.folder.now source.now.samples (ranks_below ranks RANK_LIMIT) dumps
+        × HasGathered (all_seen dumps) (root_facts dumps) false false gathering) }
+{
+    let mut gathering = Gathering::new(source.alloc)?;
+    add_ranks(progress, errors, &mut gathering, source, ranks)?;
+    Ok(gathering)
+}
+
+/// Adds the inode numbers that were listed over a mount, where they were.
+fn add_numbers<F: Folder, D: DumpReader>(
+    gathering: &mut Gathering,
+    source: &Source<'_, F, D>,
+) -> Result<(), Error>
+    ensures { (seen : List PathHeat) (facts : List Fact) → HasGathered seen facts false false gathering.old
+        → OnOk result (HasGathered seen (facts ++ listed_facts source.now.mounted) false
+        (is_some source.now.mounted) gathering.new) }
+{
+    if let Some(mounted) = &source.mounted {
+        gathering.add_numbers(mounted.listing())?;
     }
     Ok(())
 }
 
 /// Adds what was listed over a mount, where there are such files.
-fn add_listing<R: Files + AllocGlobal>(
-    rt: &R,
+fn add_listing<F: Folder, D: DumpReader>(
     gathering: &mut Gathering,
-    source: &Source<'_>,
-) -> Result<(), Error> {
-    if let Some(mounted) = &source.mounted {
-        gathering.add_numbers(mounted.listing())?;
+    source: &Source<'_, F, D>,
+) -> Result<(), Error>
+    ensures { (seen : List PathHeat) (facts : List Fact) → HasGathered seen facts false false gathering.old
+        → OnOk result ((listing : Option (List ListedDir)) × IsInFileIfAny (F.reads source.now.files.now)
+        AreValuesListed (file_in source.now.folder.now (codes "dirs")) listing
+        × HasGathered seen (facts ++ listed_facts source.now.mounted ++ listed_facts listing) (is_some listing)
+        (is_some source.now.mounted) gathering.new) }
+{
+    add_numbers(gathering, source)?;
+    if let Some(listing) = listing_of(source.files, source.alloc, source.folder)? {
+        gathering.add_listing(listing.as_slice())?;
     }
-    let folder = source.folder;
-    let path = format!(in rt.alloc(); "{folder}/dirs")?;
-    match read_if_there(rt, path.as_str(), read_listing)? {
-        Some(listing) => {
-            let added = gathering.add_listing(listing.as_slice());
-            added.map_err(Error::from)
-        }
-        None => Ok(()),
-    }
+    Ok(())
 }
 
 /// The pins of an earlier plan, where their list is asked for.
-fn own_pins<R: Files + AllocGlobal>(
-    rt: &R,
+fn own_pins<F: Folder>(
+    files: &F,
+    alloc: Global,
     path: Option<&str>,
 ) -> Result<Option<Vec<OwnPin>>, Error>
-    ensures { IfOk result (λ own. is_some own ≡ is_some path.entry) }
+    ensures { IfOk result (IsOwnOf (F.reads files.now) (option_map (λ name. name.now) path.entry)) }
 {
     match path {
-        Some(path) => Ok(Some(read_file(rt, path, read_own_list)?)),
+        Some(path) => Ok(Some(own_list_of(files, alloc, path)?)),
         None => Ok(None),
     }
 }
 
 /// The directories that are to be left where they are: those of a list, where there is one.
-pub fn read_left<R: Files + AllocGlobal>(rt: &R, path: Option<&str>) -> Result<Vec<Vec<u8>>, Error>
-    ensures { IfOk result (λ leave. is_some path.entry ≡ false → leave.items ≡ []) }
+pub fn read_left<F: Folder>(
+    files: &F,
+    alloc: Global,
+    path: Option<&str>,
+) -> Result<Vec<Vec<u8>>, Error>
+    ensures { IfOk result (λ leave. AreLeftOf (F.reads files.now) (option_map (λ name. name.now) path.entry)
+        leave.items) }
 {
     match path {
-        Some(path) => read_file(rt, path, read_path_list),
-        None => Ok(Vec::new(rt.alloc())),
+        Some(path) => path_list_of(files, alloc, path),
+        None => Ok(Vec::new(alloc)),
     }
-}
-
-/// Which file system a folder is of. A folder that the collector didn't finish is refused.
-fn file_system_of<R: Files + AllocGlobal>(rt: &R, folder: &str) -> Result<FileSystem, Error> {
-    let path = format!(in rt.alloc(); "{folder}/complete")?;
-    match read_if_there(rt, path.as_str(), read_complete)? {
-        Some(found) => Ok(found),
-        None => bail!("{path}: there is no such file: ceph/collect did not finish"),
-    }
-}
-
-/// The ranks of the file system.
-fn cluster_of<R: Files + AllocGlobal>(rt: &R, folder: &str) -> Result<FileSystemRanks, Error> {
-    let path = format!(in rt.alloc(); "{folder}/fs.json")?;
-    read_file(rt, path.as_str(), read_cluster)
-}
-
-/// Whether Ceph's balancer is on, as it counts where the collector didn't ask.
-fn balances<R: Files + AllocGlobal>(rt: &R, folder: &str) -> Result<bool, Error> {
-    let path = format!(in rt.alloc(); "{folder}/balancer")?;
-    let found = read_if_there(rt, path.as_str(), |_, bytes| read_balancer(bytes))?;
-    Ok(found.unwrap_or(true))
-}
-
-/// Adds the dumps of all ranks.
-fn add_ranks<R: Files + AllocGlobal + Clock + Eprint>(
-    rt: &R,
-    progress: &mut Progress,
-    gathering: &mut Gathering,
-    source: &Source<'_>,
-    ranks: RankSet,
-) -> Result<(), Error> {
-    for number in 0..RANK_LIMIT {
-        match Rank::new(number) {
-            Some(rank) if ranks.has(rank) => {
-                add_rank(rt, progress, gathering, source, rank)?;
-            }
-            _ => (),
-        }
-    }
-    Ok(())
-}
-
-/// How many samples rank 0 gave: one at least, as a first one that isn't there is refused when it is read.
-fn sample_count<R: Files + AllocGlobal>(rt: &R, folder: &str) -> Result<u64, Error>
-    ensures { IfOk result (λ samples. 0 < samples) }
-{
-    for sample in 1..SAMPLE_LIMIT {
-        let path = format!(in rt.alloc(); "{folder}/loads.0.{}.json", sample + 1)?;
-        if !fs::exists(rt, path.as_str())? {
-            return Ok(sample);
-        }
-    }
-    Ok(SAMPLE_LIMIT)
 }
 
 /// The pins of a list, and none where there is no list.
 pub fn listed(own: &Option<Vec<OwnPin>>) -> &[OwnPin]
-    ensures { result.now ≡ option_map_or (λ pins. pins.items) own.now [] }
+    ensures { result.now ≡ pins_listed own.now }
 {
     match own {
         Some(pins) => pins.as_slice(),
@@ -261,55 +263,48 @@ pub fn listed(own: &Option<Vec<OwnPin>>) -> &[OwnPin]
     }
 }
 
-/// Reads the dumps of these ranks.
-fn read_dumps<R: Files + AllocGlobal + Clock + Eprint>(
-    rt: &R,
-    progress: &mut Progress,
-    source: &Source<'_>,
-    ranks: RankSet,
-) -> Result<Gathering, Error> {
-    let mut gathering = Gathering::new(rt.alloc())?;
-    add_ranks(rt, progress, &mut gathering, source, ranks)?;
-    Ok(gathering)
-}
-
 /// The paths of the directories that the dumps of a folder name, and of a list of pins where it is asked for.
-pub fn read_named<R: Files + AllocGlobal + Clock + Eprint>(
-    rt: &R,
+pub fn read_named<F: Folder, D: DumpReader, C: Clock, E: Write>(
+    progress: &mut Progress<'_, C>,
+    errors: &mut E,
+    inputs: &Inputs<'_, F, D, C>,
     folder: &str,
     own: Option<&str>,
 ) -> Result<Vec<u8>, Error>
-    ensures { IfOk result (λ text. AreNamed (is_some own.entry) text.items) }
+    ensures { IfOk result (λ text. AreNamed (F.reads inputs.now.files.now) D.says folder.now
+        (option_map (λ name. name.now) own.entry) text.items) }
 {
-    let mut progress = Progress::begin(rt);
-    let ranks = cluster_of(rt, folder)?.ranks;
-    let source = source_of(rt, folder)?;
-    let gathering = read_dumps(rt, &mut progress, &source, ranks)?;
+    let (files, reader, alloc) = (inputs.files, inputs.reader, inputs.alloc);
+    let ranks = cluster_of(files, reader, alloc, folder)?.ranks;
+    let source = source_of(files, reader, alloc, folder)?;
+    let gathering = read_dumps(progress, errors, &source, ranks)?;
     let snapshot = gathering.snapshot(&[], source.samples, ranks)?;
-    let own = own_pins(rt, own)?;
-    let text = paths0(rt.alloc(), &snapshot.directories, listed(&own))?;
+    let own = own_pins(files, alloc, own)?;
+    let text = paths0(alloc, &snapshot.directories, listed(&own))?;
     Ok(text)
 }
 
 /// Reads a folder, and the list of pins of an earlier plan if there is one.
-pub fn read_collected<R: Files + AllocGlobal + Clock + Eprint>(
-    rt: &R,
-    progress: &mut Progress,
+pub fn read_collected<F: Folder, D: DumpReader, C: Clock, E: Write>(
+    progress: &mut Progress<'_, C>,
+    errors: &mut E,
+    inputs: &Inputs<'_, F, D, C>,
     folder: &str,
     own: Option<&str>,
 ) -> Result<Collected, Error>
-    ensures snapshot { IfOk result (λ collected. IsSnapshot collected.snapshot) }
-    ensures own { IfOk result (λ collected. is_some collected.own ≡ is_some own.entry) }
+    ensures collected { IfOk result (IsCollected (F.reads inputs.now.files.now) D.says folder.now
+        (option_map (λ name. name.now) own.entry)) }
     ensures ours { IfOk result (λ collected. HasOurPins collected) }
 {
-    let file_system = file_system_of(rt, folder)?;
-    let cluster = cluster_of(rt, folder)?;
-    let balances = balances(rt, folder)?;
-    let source = source_of(rt, folder)?;
+    let (files, reader, alloc) = (inputs.files, inputs.reader, inputs.alloc);
+    let file_system = file_system_of(files, alloc, folder)?;
+    let cluster = cluster_of(files, reader, alloc, folder)?;
+    let balances = balances(files, alloc, folder)?;
+    let source = source_of(files, reader, alloc, folder)?;
     let ranks = cluster.ranks;
-    let mut gathering = read_dumps(rt, progress, &source, ranks)?;
-    add_listing(rt, &mut gathering, &source)?;
-    let own = own_pins(rt, own)?;
+    let mut gathering = read_dumps(progress, errors, &source, ranks)?;
+    add_listing(&mut gathering, &source)?;
+    let own = own_pins(files, alloc, own)?;
     let snapshot = gathering.snapshot(listed(&own), source.samples, ranks)?;
     Ok(Collected {
         file_system,

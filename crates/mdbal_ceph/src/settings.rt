@@ -1,19 +1,22 @@
 //! What the words of the command line ask for.
-ghost use Rattle.std.specs.Prelude.{◌≡◌, ◌*◌, IfOk, false, map};
+ghost use Rattle.std.specs.Prelude.{◌≡◌, ◌*◌, [], IfErr, IfOk, false, map};
 ghost use Rattle.std.specs.Option.{option_map};
-ghost use Rattle.clap.specs.Words.{app_of, first_of, found_of, rows_of, rule_of, with_rule};
-ghost use Rattle.mdbal_ceph.specs.CommandLine.{AreSettings, folder_rule, mdbal_ceph, option_rule};
+ghost use Rattle.clap.specs.Words.{app_of, fault_of, first_of, found_of, matches_of, rows_of, rule_of, with_rule};
+ghost use Rattle.command_line.specs.Outcome.{Explains};
+ghost use Rattle.mdbal_ceph.specs.CommandLine.{AreSettings, EndsAs, GivesNoSettings, folder_rule, mdbal_ceph};
+ghost use Rattle.mdbal_ceph.specs.CommandLine.{option_rule};
 ghost use Rattle.mdbal_ceph.specs.CommandLine.{option_rules, plan_command, with_options};
 ghost use Rattle.mdbal_ceph.specs.Options.{AreRead, IsFlag, heat_named, inodes_named, least_named, mask_named};
 ghost use Rattle.mdbal_ceph.specs.Options.{option_number, parts_named, value_or};
 
 use crate::input::mask_named;
 use ceph_plan::PartCount;
-use clap::error::ErrorKind;
-use clap::{Arg, ArgAction, ArgMatches, Command, Error};
+use clap::{Arg, ArgAction, ArgMatches, Command};
+use command_line::OptionsError;
 use mds_types::RankSet;
 use std::alloc::{AllocError, Global};
 use std::convert::AsStr;
+use std::io::Write;
 
 /// The version that `--version` prints.
 const VERSION: &str = "0.1.0";
@@ -66,47 +69,36 @@ pub struct PlanSettings<'a> {
     pub paths0: bool,
 }
 
-/// Why there is nothing to do.
+/// Why the words give no settings.
 #[derive(Drop)]
 pub enum Refused {
-    /// The allocator refused a growth.
-    Memory,
-    /// The words are refused, or ask for the help or the version.
-    Words(Error),
+    /// The words are refused, or ask for the help or the version, or memory was refused.
+    Words(OptionsError),
     /// This option's value is neither of those that it takes.
     Value(&'static str),
 }
 
-impl From<AllocError> for Refused {
-    fn from(_: AllocError) -> Refused {
-        Refused::Memory
-    }
-}
-
-impl From<Error> for Refused {
-    fn from(error: Error) -> Refused {
-        Refused::Words(error)
-    }
-}
-
 impl Refused {
-    /// Says why. Gives the status: 0 for the help and the version, 1 where they can't be written, else 2.
-    pub fn told(&self, rt: &(impl Print + Eprint)) -> u8 {
-        let told = match self {
-            Refused::Memory => eprintln!(rt; "mdbal_ceph: no memory"),
-            Refused::Value(option) => eprintln!(rt; "mdbal_ceph: {option}: see --help"),
-            Refused::Words(error) => match error.kind() {
-                ErrorKind::DisplayHelp | ErrorKind::DisplayVersion => {
-                    return match print!(rt; "{error}") {
-                        Ok(()) => 0,
-                        Err(_) => 1,
-                    };
-                }
-                _ => eprint!(rt; "{error}"),
+    /// Says why: the help and the version go to `writer`, all else to `errors`. Gives the status: 0 for the help and
+    /// the version, 1 where they can't be written, else 2.
+    pub fn print<W: Write, E: Write>(&self, writer: &mut W, errors: &mut E) -> u8
+        ensures status { EndsAs self.now result }
+        ensures unprinted { result ≡ 2 → writer.new ≡ writer.old }
+    {
+        match self {
+            Refused::Words(OptionsError::Memory) => {
+                let _ = writeln!(errors, "mdbal_ceph: no memory");
+                2
+            }
+            Refused::Words(error) => match error.print(writer, errors) {
+                3 => 1,
+                status => status,
             },
-        };
-        let _ = told;
-        2
+            Refused::Value(option) => {
+                let _ = writeln!(errors, "mdbal_ceph: {option}: see --help");
+                2
+            }
+        }
     }
 }
 
@@ -314,17 +306,17 @@ fn command<'a>(alloc: Global) -> Result<Command<'a>, AllocError>
 }
 
 /// The number of parts that a text names.
-fn count_of(text: &str, refused: &'static str) -> Result<u16, Refused>
+fn count_of(text: &str, refused: &'static str) -> Result<u16, &'static str>
     ensures { IfOk result (λ count. count ≡ option_number text.now) }
 {
     match text.parse::<u16>() {
         Ok(count) if 0 < count => Ok(count),
-        _ => Err(Refused::Value(refused)),
+        _ => Err(refused),
     }
 }
 
 /// Into how many parts the directories are divided, where `most` is the most that `auto` tries.
-fn parts_of(text: &str, most: &str) -> Result<PartCount, Refused>
+fn parts_of(text: &str, most: &str) -> Result<PartCount, &'static str>
     ensures { IfOk result (λ parts. parts ≡ parts_named text.now most.now) }
 {
     let most = count_of(most, "--most-pins takes a number from 1 to 65535")?;
@@ -336,27 +328,27 @@ fn parts_of(text: &str, most: &str) -> Result<PartCount, Refused>
 }
 
 /// The percentage that a text names.
-fn percent_of(text: &str) -> Result<u8, Refused>
+fn percent_of(text: &str) -> Result<u8, &'static str>
     ensures { IfOk result (λ percent. percent ≡ option_number text.now) }
 {
     match text.parse::<u8>() {
         Ok(percent) => Ok(percent),
-        Err(_) => Err(Refused::Value("a percentage is a number from 0 to 255")),
+        Err(_) => Err("a percentage is a number from 0 to 255"),
     }
 }
 
 /// The heat that a text names, in thousandths.
-fn heat_of(text: &str, refused: &'static str) -> Result<u64, Refused>
+fn heat_of(text: &str, refused: &'static str) -> Result<u64, &'static str>
     ensures { IfOk result (λ heat. heat ≡ option_number text.now * 1000) }
 {
     match text.parse::<u32>() {
         Ok(heat) => Ok(u64::from(heat) * 1000),
-        Err(_) => Err(Refused::Value(refused)),
+        Err(_) => Err(refused),
     }
 }
 
 /// The heat that a text names, in thousandths, if there is one.
-fn heat_if_any(text: Option<&str>, refused: &'static str) -> Result<Option<u64>, Refused>
+fn heat_if_any(text: Option<&str>, refused: &'static str) -> Result<Option<u64>, &'static str>
     ensures { IfOk result (λ heat. heat ≡ heat_named (option_map (λ text. text.now) text.entry)) }
 {
     match text {
@@ -366,7 +358,7 @@ fn heat_if_any(text: Option<&str>, refused: &'static str) -> Result<Option<u64>,
 }
 
 /// The number of inodes that a text names, if there is one.
-fn inodes_if_any(text: Option<&str>) -> Result<Option<u64>, Refused>
+fn inodes_if_any(text: Option<&str>) -> Result<Option<u64>, &'static str>
     ensures { IfOk result (λ inodes. inodes ≡ inodes_named (option_map (λ text. text.now) text.entry)) }
 {
     let Some(text) = text else {
@@ -374,12 +366,12 @@ fn inodes_if_any(text: Option<&str>) -> Result<Option<u64>, Refused>
     };
     match text.parse::<u32>() {
         Ok(inodes) => Ok(Some(u64::from(inodes))),
-        Err(_) => Err(Refused::Value("--most-inodes takes a whole number")),
+        Err(_) => Err("--most-inodes takes a whole number"),
     }
 }
 
 /// What a plan has to come to.
-fn least_of(matches: &ArgMatches<'_>) -> Result<Least, Refused>
+fn least_of(matches: &ArgMatches<'_>) -> Result<Least, &'static str>
     ensures { IfOk result (λ least. least ≡ least_named (rows_of (found_of matches.now))) }
 {
     Ok(Least {
@@ -396,7 +388,7 @@ fn least_of(matches: &ArgMatches<'_>) -> Result<Least, Refused>
 }
 
 /// The ranks that a mask names, where one is given.
-fn mask_of(text: Option<&str>) -> Result<Option<RankSet>, Refused>
+fn mask_of(text: Option<&str>) -> Result<Option<RankSet>, &'static str>
     ensures { IfOk result (λ mask. mask ≡ mask_named (option_map (λ text. text.now) text.entry)) }
 {
     let Some(text) = text else {
@@ -404,19 +396,17 @@ fn mask_of(text: Option<&str>) -> Result<Option<RankSet>, Refused>
     };
     match mask_named(text) {
         Some(mask) => Ok(Some(mask)),
-        None => Err(Refused::Value(
-            "--mask takes all, -1 as in --mask=-1, or 1 to 16 hexadecimal digits",
-        )),
+        None => Err("--mask takes all, -1 as in --mask=-1, or 1 to 16 hexadecimal digits"),
     }
 }
 
 /// Where the file system is mounted: an absolute path.
-fn mount_of(text: &str) -> Result<&str, Refused>
+fn mount_of(text: &str) -> Result<&str, &'static str>
     ensures { IfOk result (λ mount. mount.now ≡ text.now) }
 {
     match text.as_bytes() {
         [b'/', ..] => Ok(text),
-        _ => Err(Refused::Value("--mount takes an absolute path")),
+        _ => Err("--mount takes an absolute path"),
     }
 }
 
@@ -445,7 +435,7 @@ fn value_or<'a>(matches: &ArgMatches<'a>, option: &str, other: &'static str) -> 
 }
 
 /// The settings that were found.
-fn found<'a>(matches: &ArgMatches<'a>) -> Result<PlanSettings<'a>, Refused>
+fn found<'a>(matches: &ArgMatches<'a>) -> Result<PlanSettings<'a>, &'static str>
     ensures { IfOk result (AreRead (rows_of (found_of matches.now))) }
 {
     let mask = mask_of(value_of(matches, "mask"))?;
@@ -472,10 +462,27 @@ fn found<'a>(matches: &ArgMatches<'a>) -> Result<PlanSettings<'a>, Refused>
     })
 }
 
-/// What the words of a command line ask for, of which the first is the program's name.
-pub fn settings_of<'a, S: AsStr>(alloc: Global, words: &'a [S]) -> Result<PlanSettings<'a>, Refused>
-    ensures { IfOk result (AreSettings (map S.text words.entry.now)) }
+/// What `clap` finds in the words.
+fn found_in<'a, S: AsStr>(alloc: Global, words: &'a [S]) -> Result<ArgMatches<'a>, OptionsError>
+    ensures accepted { IfOk result (λ _. fault_of mdbal_ceph (map S.text words.entry.now) ≡ []) }
+    ensures found { IfOk result (λ m. rows_of (found_of m) ≡ matches_of mdbal_ceph (map S.text words.entry.now)) }
+    ensures refused { IfErr result (Explains (fault_of mdbal_ceph (map S.text words.entry.now))) }
 {
     let matches = command(alloc)?.try_get_matches_from(words)?;
-    found(&matches)
+    Ok(matches)
+}
+
+/// What the words of a command line ask for, of which the first is the program's name.
+pub fn settings_of<'a, S: AsStr>(alloc: Global, words: &'a [S]) -> Result<PlanSettings<'a>, Refused>
+    ensures accepted { IfOk result (λ _. fault_of mdbal_ceph (map S.text words.entry.now) ≡ []) }
+    ensures settings { IfOk result (AreSettings (map S.text words.entry.now)) }
+    ensures refused { IfErr result (GivesNoSettings (map S.text words.entry.now)) }
+{
+    match found_in(alloc, words) {
+        Err(error) => Err(Refused::Words(error)),
+        Ok(matches) => match found(&matches) {
+            Ok(settings) => Ok(settings),
+            Err(option) => Err(Refused::Value(option)),
+        },
+    }
 }

@@ -3,7 +3,7 @@ use Rattle.mdbal_ceph.proofs.files.checked.Goals as goal
 pub returns : goal.returns
 returns g c = record {
   collected = c.in_ok-collected.collected;
-  own = c.in_ok-collected.ensures.own;
+  read = c.in_ok-collected.ensures.collected;
   ours = c.in_ok-collected.ensures.ours;
   text = rw (c.deref.ensures.value, c.listed-count.ensures) at c.in_ok-found.ensures.text;
   holds = rw (c.deref.ensures.value, c.listed-count.ensures) at c.in_ok-found.ensures.holds;

@@ -1,0 +1,16 @@
+use Rattle.std.proofs.Common.{◌≡◌, ◌∙◌, ◌++◌, List, Option, Some, false, is_some, rules, subst, sym}
+use Rattle.ceph_dumps.specs.declared.listing.ListedDir.{ListedDir}
+use Rattle.mdbal_ceph.specs.Collections.{HasGathered}
+use Rattle.mdbal_ceph.specs.Dumps.{listed_facts}
+use Rattle.mdbal_ceph.proofs.collected.add_numbers.Goals as goal
+
+pub returns-in_ok-add_numbers : goal.returns-in_ok-add_numbers
+returns-in_ok-add_numbers g c = λ seen facts was.
+    let is : c.args.source.now.mounted ≡ Some c.listing.result.now = search rules in
+    subst (λ (listed : Option (List ListedDir)). HasGathered seen (facts ++ listed_facts listed) false (is_some listed) c.add_numbers.new.self) (sym is)
+    (record {
+      seen_is = c.add_numbers.ensures.seen ∙ was.seen_is;
+      told = c.in_ok-add_numbers.ensures.told facts was.told;
+      listed_is = c.add_numbers.ensures.listed ∙ was.listed_is;
+      numbered_is = c.in_ok-add_numbers.ensures.numbered;
+    })

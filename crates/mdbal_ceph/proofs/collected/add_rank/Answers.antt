@@ -1,0 +1,44 @@
+use Rattle.std.proofs.Common.{◌≡◌, ◌++◌, ◌∷◌, [], ℕ, List, append-nil, arith, refl, subst, sym}
+use Rattle.std.specs.List.{flat_map}
+use Rattle.ceph_dumps.specs.declared.loads.FragmentHeat.{FragmentHeat}
+use Rattle.ceph_snapshot.specs.Facts.{roots_in}
+use Rattle.ceph_snapshot.specs.Sightings.{PathHeat, seen_in}
+use Rattle.mdbal_ceph.specs.Collections.{Adds}
+use Rattle.mdbal_ceph.specs.Dumps.{AreSamples}
+use Rattle.mdbal_ceph.proofs.Gathered.{adds_both, adds_none, piece_more, samples_more, samples_none}
+use Rattle.mdbal_ceph.proofs.collected.add_rank.Goals as goal
+
+pub loop-sample-init : goal.loop-sample-init
+loop-sample-init g c = (
+  [],
+  samples_none (g.F.Folder.reads c.args.source.now.files.now) g.D.DumpReader.says c.args.source.now.mounted c.args.source.now.folder.now c.args.rank,
+  adds_none c.add_subtrees.new.gathering,
+)
+
+pub loop-sample-preserved : goal.loop-sample-preserved
+loop-sample-preserved g c =
+    let was = c.loop-sample.invariant in
+    let here = c.in_ok-add_loads.ensures in
+    let samples : List (List FragmentHeat) = was.0 in
+    let loads : List FragmentHeat = here.0 in (
+      samples ++ loads ∷ [],
+      samples_more (g.F.Folder.reads c.args.source.now.files.now) g.D.DumpReader.says c.args.source.now.mounted c.args.source.now.folder.now c.args.rank c.loop-sample.sample samples loads was.1 here.1,
+      subst (λ (s : List PathHeat). Adds c.add_subtrees.new.gathering c.add_loads.new.gathering s []) (sym (piece_more (seen_in c.args.rank) samples loads))
+          (adds_both c.add_subtrees.new.gathering c.loop-sample.gathering c.add_loads.new.gathering (flat_map (seen_in c.args.rank) samples) (seen_in c.args.rank loads) [] [] was.2 here.2),
+    )
+
+pub returns : goal.returns
+returns g c =
+    let was = c.loop-sample.invariant in
+    let sub = c.in_ok-add_subtrees.ensures in
+    let samples : List (List FragmentHeat) = was.0 in
+    let all : c.loop-sample.sample ≡ c.args.source.now.samples = omega (arith, c.loop-sample-test.false, c.loop-sample.auto.sample-end) in (
+      record { rank = c.args.rank; roots = sub.0; samples = samples },
+      refl,
+      record {
+        roots = sub.1;
+        samples = subst (λ (n : ℕ). AreSamples (g.F.Folder.reads c.args.source.now.files.now) g.D.DumpReader.says c.args.source.now.mounted c.args.source.now.folder.now c.args.rank n samples) all was.1;
+      },
+      subst (Adds c.args.gathering.now c.loop-sample.gathering (flat_map (seen_in c.args.rank) samples)) (append-nil (roots_in c.args.rank sub.0))
+          (adds_both c.args.gathering.now c.add_subtrees.new.gathering c.loop-sample.gathering [] (flat_map (seen_in c.args.rank) samples) (roots_in c.args.rank sub.0) [] sub.2 was.2),
+    )

@@ -1,0 +1,120 @@
+-- What the program has done when it ends: what it printed, and which files it wrote.
+use Rattle.std.specs.Prelude.{◌≡◌, ◌⊎◌, ◌++◌, ◌∷◌, ⊤, ℕ, Bool, true, false, List, [], Option, Some, None, Vec, codes}
+use Rattle.std.specs.Global.{Global}
+use Rattle.std.specs.Option.{option_map}
+use Rattle.std.specs.Io.KnownBytes.{Appends}
+use Rattle.clap.specs.Words.{Text, fault_of}
+use Rattle.ceph_report.specs.Check.{check_status}
+use Rattle.mdbal_ceph.specs.CommandLine.{AreSettings, EndsAs, GivesNoSettings, mdbal_ceph}
+use Rattle.mdbal_ceph.specs.Dumps.{DumpValue}
+use Rattle.mdbal_ceph.specs.Folder.{FileContent}
+use Rattle.mdbal_ceph.specs.Options.{AreNamed, IsChecked, IsPlanWritten}
+use Rattle.mdbal_ceph.specs.Writing.{plan_status}
+use Rattle.mdbal_ceph.specs.declared.settings.PlanSettings.{PlanSettings}
+use Rattle.mdbal_ceph.specs.declared.settings.Refused.{Refused}
+use Rattle.mdbal_ceph.specs.declared.running.Made.{Made}
+use Rattle.mdbal_ceph.specs.declared.running.Made.TheVariants.{Checked, Named, Planned}
+use Rattle.mdbal_ceph.specs.declared.writing.PinFiles.{PinFiles}
+use Rattle.mdbal_ceph.specs.declared.writing.PlanOutput.{PlanOutput}
+
+-- a file that was written: its name and its bytes; or only a front of them, where that failed
+pub data FileWrite : Type 0 where
+  Whole : List ℕ → List ℕ → FileWrite
+  Front : List ℕ → List ℕ → FileWrite
+
+-- where it is known what was written, this comes after it
+abbrev pub Writes : Option (List FileWrite) → Option (List FileWrite) → List FileWrite → Type 0
+Writes None new files = ⊤
+Writes (Some before) None files = ⊥
+Writes (Some before) (Some after) files = after ≡ before ++ files
+
+-- a text goes to the file of this name, where both are there
+abbrev pub text_files : Option (List ℕ) → Option (Vec ℕ Global) → List FileWrite
+text_files (Some name) (Some text) = Whole name text.items ∷ []
+text_files _ _ = []
+
+-- the files of `--pins`: the script that sets the pins is the last
+abbrev pub pins_files : Option (List ℕ) → Option PinFiles → List FileWrite
+pins_files (Some name) (Some pins) =
+    Whole (name ++ codes ".own") pins.own.items ∷ Whole (name ++ codes ".plan") pins.plan.items
+    ∷ Whole (name ++ codes ".back") pins.back.items ∷ Whole name pins.script.items ∷ []
+pins_files _ _ = []
+
+abbrev pub plan_files : PlanSettings → PlanOutput → List FileWrite
+plan_files settings output =
+    text_files (option_map (λ name. name.now) settings.svg) output.picture
+    ++ text_files (option_map (λ name. name.now) settings.script) output.script
+    ++ pins_files (option_map (λ name. name.now) settings.pins) output.pins
+
+-- the files that a run writes, in their order: none but those of a plan
+abbrev pub files_made : PlanSettings → Made → List FileWrite
+files_made settings (Checked found) = []
+files_made settings (Named text) = []
+files_made settings (Planned output) = plan_files settings output
+
+-- what it prints
+abbrev pub text_made : Made → List ℕ
+text_made (Checked found) = found.text.items
+text_made (Named text) = text.items
+text_made (Planned output) = output.text.items
+
+-- 0 where all pins of the list hold, where paths are printed, and where changes are proposed; 3 where none are, and 4
+-- where a pin does not hold
+abbrev pub status_made : Made → ℕ
+status_made (Checked found) = check_status found.all_hold
+status_made (Named text) = 0
+status_made (Planned output) = plan_status output.is_proposed
+
+-- some of these files were written, in their order, but not the last; of the next there may be a front
+pub record IsCutShort (old new : Option (List FileWrite)) (files : List FileWrite) : Type 0 where
+  pub whole : List FileWrite
+  pub name : List ℕ
+  pub bytes : List ℕ
+  pub more : List FileWrite
+  pub all : files ≡ whole ++ Whole name bytes ∷ more
+  pub cut : Writes old new whole ⊎ ((front : List ℕ) × Writes old new (whole ++ Front name front ∷ []))
+
+-- what the settings ask for: `--check` before `--paths0`, and otherwise a plan
+abbrev pub IsMadeOf : (List ℕ → FileContent → Type 0) → (List ℕ → DumpValue → Type 0) → PlanSettings
+    → Option (List ℕ) → Bool → Made → Type 0
+IsMadeOf reads says settings (Some list) paths0 (Checked found) = IsChecked reads says settings.folder.now list found
+IsMadeOf reads says settings None true (Named text) =
+    AreNamed reads says settings.folder.now (option_map (λ name. name.now) settings.own) text.items
+IsMadeOf reads says settings None false (Planned output) = IsPlanWritten reads says settings output
+IsMadeOf reads says settings list paths0 made = ⊥
+
+abbrev pub IsAskedFor : (List ℕ → FileContent → Type 0) → (List ℕ → DumpValue → Type 0) → PlanSettings → Made → Type 0
+IsAskedFor reads says settings made =
+    IsMadeOf reads says settings (option_map (λ name. name.now) settings.check) settings.paths0 made
+
+module _ {W O : Type 0} (reads : List ℕ → FileContent → Type 0) (says : List ℕ → DumpValue → Type 0)
+    (contents : W → Option (List ℕ)) (written : O → Option (List FileWrite)) (before after : W) (old new : O) where
+  -- what was asked for was made: its files were written, each whole, and then its text was printed
+  abbrev pub IsDone : PlanSettings → ℕ → Type 0
+  IsDone settings status =
+      (made : Made) × IsAskedFor reads says settings made × (status ≡ status_made made)
+      × Writes (written old) (written new) (files_made settings made)
+      × Appends (contents before) (contents after) (text_made made)
+
+  -- nothing was made, and nothing was written or printed; or a file could not be written whole, nothing was written
+  -- after it, and nothing was printed; or all files were written, and the text could not be printed
+  abbrev pub IsFailed : PlanSettings → ℕ → Type 0
+  IsFailed settings status =
+      (status ≡ 1)
+      × (((new ≡ old) × (after ≡ before))
+      ⊎ ((made : Made) × IsAskedFor reads says settings made
+      × ((IsCutShort (written old) (written new) (files_made settings made) × (after ≡ before))
+      ⊎ Writes (written old) (written new) (files_made settings made))))
+
+  -- a run by these settings ends with this status
+  abbrev pub IsRun : PlanSettings → ℕ → Type 0
+  IsRun settings status = IsDone settings status ⊎ IsFailed settings status
+
+  -- the words of a command line give settings, and a run by them ends with this status; or they give none. Then no file
+  -- is written, and nothing is printed but the help or the version
+  abbrev pub IsExit : List Text → ℕ → Type 0
+  IsExit words status =
+      ((settings : PlanSettings) × (fault_of mdbal_ceph words ≡ []) × AreSettings words settings
+      × IsRun settings status)
+      ⊎ ((refused : Refused) × GivesNoSettings words refused × EndsAs refused status × (new ≡ old)
+      × (status ≡ 2 → after ≡ before))

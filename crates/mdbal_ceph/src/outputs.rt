@@ -1,0 +1,148 @@
+//! The files that are written.
+ghost use Rattle.std.specs.Prelude.{◌≡◌, ◌++◌, ◌∷◌, [], IfOk, OnErr, OnOk, Some, string_bytes};
+ghost use Rattle.std.specs.Option.{option_map};
+ghost use Rattle.mdbal_ceph.specs.Exit.{IsCutShort, Whole, Writes, pins_files, plan_files, text_files};
+
+use crate::settings::PlanSettings;
+use crate::writing::{PinFiles, PlanOutput};
+use anyhow::{Context, Error};
+use command_line::create_file;
+use std::alloc::{AllocError, Global};
+use std::io;
+use std::io::Write;
+use std::rt::Files;
+
+/// Where files are written.
+pub trait OutputFiles {
+    ghost use Rattle.std.specs.Prelude.{◌∷◌, [], ℕ, List, Option, OnErr, OnOk};
+    ghost use Rattle.mdbal_ceph.specs.Exit.{FileWrite, IsCutShort, Whole, Writes};
+
+    // What was written, in its order, where it is known.
+    ghost written: { Self → Option (List FileWrite) };
+
+    /// Makes a file of this name, or empties the one that is there, and writes these bytes to it.
+    fn write_file(&mut self, name: &str, bytes: &[u8]) -> io::Result<()>
+        ensures whole { OnOk result (Writes (written self.old) (written self.new) (Whole name.now bytes.now ∷ [])) }
+        ensures cut { OnErr result (IsCutShort (written self.old) (written self.new) (Whole name.now bytes.now ∷ [])) };
+}
+
+/// The files of the system. No contract says what they hold afterwards.
+#[derive(Clone, Copy, Drop)]
+pub struct SystemOutputs<'a, T> {
+    /// The system.
+    pub runtime: &'a T,
+}
+
+impl<T: Files> OutputFiles for SystemOutputs<'_, T> {
+    ghost use Rattle.std.specs.Prelude.{None};
+
+    ghost written = { λ _. None };
+
+    fn write_file(&mut self, name: &str, bytes: &[u8]) -> io::Result<()> {
+        let mut made = create_file(self.runtime, name)?;
+        made.write_all(bytes)?;
+        Ok(())
+    }
+}
+
+/// Writes a file.
+fn write_file<O: OutputFiles>(outputs: &mut O, name: &str, bytes: &[u8]) -> Result<(), Error>
+    ensures whole { OnOk result (Writes (O.written outputs.old) (O.written outputs.new)
+        (Whole name.now bytes.now ∷ [])) }
+    ensures cut { OnErr result (IsCutShort (O.written outputs.old) (O.written outputs.new)
+        (Whole name.now bytes.now ∷ [])) }
+{
+    outputs
+        .write_file(name, bytes)
+        .context(format_args!("{name}"))
+}
+
+/// A name with these letters after it.
+fn with_ending(alloc: Global, name: &str, ending: &str) -> Result<String, AllocError>
+    ensures { IfOk result (λ made. string_bytes made ≡ name.now ++ ending.now) }
+{
+    format!(in alloc; "{name}{ending}")
+}
+
+/// Writes the files of `--pins`. The script comes last, so that the others are there once it is.
+fn write_pin_files<O: OutputFiles>(
+    outputs: &mut O,
+    alloc: Global,
+    name: &str,
+    pins: &PinFiles,
+) -> Result<(), Error>
+    ensures whole { OnOk result (Writes (O.written outputs.old) (O.written outputs.new)
+        (pins_files (Some name.now) (Some pins.now))) }
+    ensures cut { OnErr result (IsCutShort (O.written outputs.old) (O.written outputs.new)
+        (pins_files (Some name.now) (Some pins.now))) }
+{
+    let own = with_ending(alloc, name, ".own")?;
+    let plan = with_ending(alloc, name, ".plan")?;
+    let back = with_ending(alloc, name, ".back")?;
+    write_file(outputs, own.as_str(), pins.own.as_slice())?;
+    write_file(outputs, plan.as_str(), pins.plan.as_slice())?;
+    write_file(outputs, back.as_str(), pins.back.as_slice())?;
+    write_file(outputs, name, pins.script.as_slice())?;
+    Ok(())
+}
+
+/// Writes the files of `--pins`, where it is given.
+fn write_pins<O: OutputFiles>(
+    outputs: &mut O,
+    alloc: Global,
+    name: Option<&str>,
+    pins: &Option<PinFiles>,
+) -> Result<(), Error>
+    ensures whole { OnOk result (Writes (O.written outputs.old) (O.written outputs.new)
+        (pins_files (option_map (λ name. name.now) name.entry) pins.now)) }
+    ensures cut { OnErr result (IsCutShort (O.written outputs.old) (O.written outputs.new)
+        (pins_files (option_map (λ name. name.now) name.entry) pins.now)) }
+{
+    let Some(name) = name else {
+        return Ok(());
+    };
+    let Some(pins) = pins else {
+        return Ok(());
+    };
+    write_pin_files(outputs, alloc, name, pins)?;
+    Ok(())
+}
+
+/// Writes a text to a file, where both are there.
+fn write_text<O: OutputFiles>(
+    outputs: &mut O,
+    name: Option<&str>,
+    text: &Option<Vec<u8>>,
+) -> Result<(), Error>
+    ensures whole { OnOk result (Writes (O.written outputs.old) (O.written outputs.new)
+        (text_files (option_map (λ name. name.now) name.entry) text.now)) }
+    ensures cut { OnErr result (IsCutShort (O.written outputs.old) (O.written outputs.new)
+        (text_files (option_map (λ name. name.now) name.entry) text.now)) }
+{
+    let Some(name) = name else {
+        return Ok(());
+    };
+    let Some(text) = text else {
+        return Ok(());
+    };
+    write_file(outputs, name, text.as_slice())?;
+    Ok(())
+}
+
+/// Writes the files of a plan that are asked for.
+pub(crate) fn write_files<O: OutputFiles>(
+    outputs: &mut O,
+    alloc: Global,
+    settings: &PlanSettings,
+    output: &PlanOutput,
+) -> Result<(), Error>
+    ensures whole { OnOk result (Writes (O.written outputs.old) (O.written outputs.new)
+        (plan_files settings.now output.now)) }
+    ensures cut { OnErr result (IsCutShort (O.written outputs.old) (O.written outputs.new)
+        (plan_files settings.now output.now)) }
+{
+    write_text(outputs, settings.svg, &output.picture)?;
+    write_text(outputs, settings.script, &output.script)?;
+    write_pins(outputs, alloc, settings.pins, &output.pins)?;
+    Ok(())
+}
