@@ -1,5 +1,5 @@
 -- The numbers in the picture.
-use Rattle.std.specs.Prelude.{◌*◌, ◌/◌, ◌%◌, ◌++◌, ℕ, List, [], codes, Option, Some, None}
+use Rattle.std.specs.Prelude.{◌-◌, ◌*◌, ◌/◌, ◌%◌, ◌++◌, ℕ, List, [], codes, Option, Some, None}
 use Rattle.ceph_snapshot.specs.declared.directory.Directory.{Directory}
 use Rattle.ceph_report.specs.Staying.{stay_text}
 use Rattle.ceph_report.specs.Text.{field}
@@ -9,9 +9,10 @@ unfoldable pub hundredths_text : List ℕ → ℕ → List ℕ
 hundredths_text label hundredths =
     field label (hundredths / 100) ++ field (codes ".") (hundredths % 100 / 10) ++ field [] (hundredths % 10)
 
--- the colour of a rank
+-- the colour of a rank: neighbours differ in hue and in how light they are
 unfoldable pub colour_text : ℕ → List ℕ
-colour_text rank = field (codes "hsl(") (rank * 137 % 360) ++ codes ",60%,75%)"
+colour_text rank =
+    field (codes "hsl(") (rank * 137 % 360) ++ field (codes ",60%,") (85 - rank % 3 * 10) ++ codes "%)"
 
 -- what is shown of a directory on hover, under its path: the rank that it is to be at and the one that has it, its heat
 -- and inodes, and those with what is below

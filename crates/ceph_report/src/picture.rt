@@ -1,7 +1,8 @@
 //! A picture of the directories: a box a directory under its parent's, as wide as the heat at and below it, in the
 //! colour of the rank that it is to be at. Where the rank differs from the parent's the edge is thick. Where it is to
 //! go, a stripe at the foot has the colour of the rank that has it now. The children of a directory that are too cold
-//! for boxes of their own have a grey one together, after the others. The last row says which colour a rank has.
+//! for boxes of their own have a grey one together, after the others. The last rows
+//! say which colour a rank has, and what widths, stripes and edges mean.
 ghost use Rattle.std.specs.Prelude.{◌≡◌, ◌++◌, OnOk};
 ghost use Rattle.ceph_report.specs.Picture.{colour_text, hundredths_text, hover_stay, hover_text, rest_text};
 
@@ -71,13 +72,14 @@ fn push_hundredths(text: &mut Vec<u8>, label: &str, hundredths: u64) -> Result<(
     push_number(text, "", hundredths % 10)
 }
 
-/// Adds the colour of a rank.
+/// Adds the colour of a rank: neighbours differ in hue and in how light they are.
 #[tactic(auto, unfolding(crate::specs::Picture::colour_text))]
 fn push_colour(text: &mut Vec<u8>, rank: Rank) -> Result<(), AllocError>
     ensures { OnOk result (text.new.items ≡ text.old.items ++ colour_text rank) }
 {
     push_number(text, "hsl(", u64::from(rank.number()) * 137 % 360)?;
-    push_text(text, ",60%,75%)")
+    push_number(text, ",60%,", 85 - u64::from(rank.number()) % 3 * 10)?;
+    push_text(text, "%)")
 }
 
 /// Where a rectangle is: how far from the left, and how wide, in hundredths of a pixel; how far from the top, and how
@@ -250,7 +252,7 @@ fn levels(places: &[Place]) -> u64 {
 
 /// What a box and its words look like.
 const STYLE: &str = "\">
-<style>rect{stroke:#fff;stroke-width:0.5}rect.cut{stroke:#222;stroke-width:2}rect.now{stroke:none}\
+<style>svg{background:#fff}rect{stroke:#fff;stroke-width:0.5}rect.cut{stroke:#222;stroke-width:2}rect.now{stroke:none}\
 text{font:11px monospace;pointer-events:none}</style>
 ";
 
@@ -267,25 +269,28 @@ fn push_head(text: &mut Vec<u8>, height: u64) -> Result<(), AllocError> {
     push_text(text, STYLE)
 }
 
-/// Adds the colours of these ranks, and what a stripe is, from this far from the top.
+/// Adds the colours of these ranks, and below them what is meant by what, from this far from the top.
 fn push_legend(text: &mut Vec<u8>, ranks: RankSet, top: u64) -> Result<(), AllocError> {
     let mut left = 0;
     for number in 0..RANK_LIMIT {
         if let Some(rank) = Rank::new(number) {
-            if ranks.has(rank) && left < WIDTH - 2 * KEY_WIDTH {
+            if ranks.has(rank) && left < WIDTH - KEY_WIDTH {
                 push_key(text, rank, left, top)?;
                 left += KEY_WIDTH;
             }
         }
     }
     let words = Frame {
-        left,
+        left: 0,
         width: 0,
-        top,
+        top: top.saturating_add(HEIGHT),
         height: HEIGHT,
     };
     push_label(text, words)?;
-    push_text(text, "stripe: rank now</text>\n")
+    push_text(
+        text,
+        "width: heat; stripe: rank now; thick edge: other rank than above</text>\n",
+    )
 }
 
 /// Adds the colour of a rank to the legend.
@@ -369,7 +374,7 @@ pub fn make_picture(
     let places = places_of(alloc, directories, stays)?;
     let foot = levels(&places).saturating_mul(HEIGHT);
     let mut text = Vec::new(alloc);
-    push_head(&mut text, foot.saturating_add(HEIGHT))?;
+    push_head(&mut text, foot.saturating_add(2 * HEIGHT))?;
     push_boxes(&mut text, alloc, directories, ranks, &places)?;
     push_legend(&mut text, ranks_of(directories, ranks), foot)?;
     push_text(&mut text, "</svg>\n")?;

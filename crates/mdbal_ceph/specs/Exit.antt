@@ -8,7 +8,8 @@ use Rattle.ceph_report.specs.Check.{check_status}
 use Rattle.mdbal_ceph.specs.CommandLine.{AreSettings, EndsAs, GivesNoSettings, mdbal_ceph}
 use Rattle.mdbal_ceph.specs.Dumps.{DumpValue}
 use Rattle.mdbal_ceph.specs.Folder.{FileContent}
-use Rattle.mdbal_ceph.specs.Options.{AreNamed, IsChecked, IsPlanWritten}
+use Rattle.mdbal_ceph.specs.Options.{AreNamed, IsPlanWritten}
+use Rattle.mdbal_ceph.specs.PlanChecks.{IsCompared}
 use Rattle.mdbal_ceph.specs.Writing.{plan_status}
 use Rattle.mdbal_ceph.specs.declared.settings.PlanSettings.{PlanSettings}
 use Rattle.mdbal_ceph.specs.declared.settings.Refused.{Refused}
@@ -58,8 +59,8 @@ text_made (Checked found) = found.text.items
 text_made (Named text) = text.items
 text_made (Planned output) = output.text.items
 
--- 0 where all pins of the list hold, where paths are printed, and where changes are proposed; 3 where none are, and 4
--- where a pin does not hold
+-- 0 where the plan or all pins of the list hold, where paths are printed, and where changes are proposed; 3 where none
+-- are, and 4 where the plan or a pin does not hold
 abbrev pub status_made : Made → ℕ
 status_made (Checked found) = check_status found.all_hold
 status_made (Named text) = 0
@@ -77,7 +78,7 @@ pub record IsCutShort (old new : Option (List FileWrite)) (files : List FileWrit
 -- what the settings ask for: `--check` before `--paths0`, and otherwise a plan
 abbrev pub IsMadeOf : (List ℕ → FileContent → Type 0) → (List ℕ → DumpValue → Type 0) → PlanSettings
     → Option (List ℕ) → Bool → Made → Type 0
-IsMadeOf reads says settings (Some list) paths0 (Checked found) = IsChecked reads says settings.folder.now list found
+IsMadeOf reads says settings (Some name) paths0 (Checked found) = IsCompared reads says settings.folder.now name found
 IsMadeOf reads says settings None true (Named text) =
     AreNamed reads says settings.folder.now (option_map (λ name. name.now) settings.own) text.items
 IsMadeOf reads says settings None false (Planned output) = IsPlanWritten reads says settings output

@@ -8,5 +8,6 @@ pub mod Named
 pub mod Options
 pub mod Outcomes
 pub mod OwnListPins
+pub mod PlanChecks
 pub mod Usable
 pub mod Writing

@@ -2,6 +2,7 @@
 #![tactic(auto)]
 
 mod collected;
+mod comparing;
 mod driver_plan;
 mod dump_reader;
 mod files;

@@ -5,8 +5,9 @@ ghost use Rattle.mdbal_ceph.specs.Exit.{IsAskedFor, IsCutShort, IsExit, IsRun, W
 ghost use Rattle.mdbal_ceph.specs.Exit.{text_made};
 
 use crate::collected::read_named;
+use crate::comparing::compared;
 use crate::dump_reader::DumpReader;
-use crate::files::{carry_out, checked};
+use crate::files::carry_out;
 use crate::folder::Folder;
 use crate::inputs::Inputs;
 use crate::outputs::{OutputFiles, write_files};
@@ -23,7 +24,7 @@ use std::rt::Clock;
 /// What a run makes.
 #[derive(Drop)]
 pub enum Made {
-    /// How the pins of a list hold.
+    /// How a plan or the pins of a list hold.
     Checked(PinCheck),
     /// The paths of directories.
     Named(Vec<u8>),
@@ -64,8 +65,8 @@ fn make<F: Folder, D: DumpReader, C: Clock, E: Write>(
     ensures { IfOk result (IsAskedFor (F.reads inputs.now.files.now) D.says settings.now) }
 {
     let mut progress = Progress::begin(inputs.clock);
-    if let Some(list) = settings.check {
-        let found = checked(&mut progress, errors, inputs, settings.folder, list)?;
+    if let Some(name) = settings.check {
+        let found = compared(&mut progress, errors, inputs, settings.folder, name)?;
         return Ok(Made::Checked(found));
     }
     if settings.paths0 {
@@ -152,9 +153,9 @@ fn run<F: Folder, D: DumpReader, C: Clock, O: OutputFiles, W: Write, E: Write>(
 
 /// Does what the words of a command line ask for, of which the first is the program's name. Gives the status.
 ///
-/// It is 0 where changes are proposed, where the pins of a list hold, for a list of paths, and for the help and the
-/// version; 1 where a file is missing, broken or can't be written, or there is no plan; 2 where the words are refused;
-/// 3 where nothing is proposed; 4 where a pin does not hold.
+/// It is 0 where changes are proposed, where a driver's plan or the pins of a list hold, for a list of paths, and for
+/// the help and the version; 1 where a file is missing, broken or can't be written, or there is no plan; 2 where the
+/// words are refused; 3 where nothing is proposed; 4 where the driver's plan or a pin does not hold.
 pub fn start<F: Folder, D: DumpReader, C: Clock, O: OutputFiles, S: AsStr, W: Write, E: Write>(
     inputs: &Inputs<'_, F, D, C>,
     words: &[S],

@@ -49,7 +49,7 @@ pub struct PlanSettings<'a> {
     pub mask: Option<RankSet>,
     /// The list of pins that this program set before.
     pub own: Option<&'a str>,
-    /// The list of pins that are compared with the cluster's, and nothing is planned.
+    /// The driver's plan or the list of pins that is compared with the cluster, and nothing is planned.
     pub check: Option<&'a str>,
     /// What a plan has to come to for a proposal.
     pub least: Least,
@@ -143,7 +143,8 @@ const OPTIONS: &[PlanOption] = &[
         name: "check",
         default: None,
         value: Some("FILE"),
-        help: "Plan nothing, and report which pins of this list are not set or do not hold",
+        help: "Plan nothing, and report how the cluster differs from this plan of a driver, or which pins of this \
+               list are not set or do not hold",
     },
     PlanOption {
         name: "least-gain",
@@ -266,8 +267,8 @@ fn plain_command<'a>(alloc: Global) -> Command<'a>
 {
     Command::new(alloc, "mdbal_ceph").version(VERSION).about(
         "Plans export pins that balance a live CephFS. Status 0: changes are proposed; 1: a file is missing, broken \
-         or can't be written, or there is no plan; 2: the command line is refused; 3: nothing is proposed; 4: a pin of \
-         --check does not hold",
+         or can't be written, or there is no plan; 2: the command line is refused; 3: nothing is proposed; 4: the plan \
+         or a pin of --check does not hold",
     )
 }
 

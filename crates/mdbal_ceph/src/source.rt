@@ -34,7 +34,7 @@ pub(crate) struct Source<'a, F, D> {
 }
 
 /// The bytes of a file, if it is there.
-fn bytes_if_there<F: Folder>(files: &F, path: &str) -> Result<Option<Vec<u8>>, Error>
+pub(crate) fn bytes_if_there<F: Folder>(files: &F, path: &str) -> Result<Option<Vec<u8>>, Error>
     ensures { IfOk result (λ found. F.reads files.now path.now (content_of found)) }
 {
     files.read(path).context(format_args!("{path}"))
