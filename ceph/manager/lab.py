@@ -79,8 +79,8 @@ def end(name: str, number: int = signal.SIGTERM) -> None:
 
 def is_running(name: str) -> bool:
     try:
-        with open("/proc/{}/cmdline".format(pid_of(name)), "rb") as it:
-            return b"ceph" in it.read()
+        with open("/proc/{}/stat".format(pid_of(name)), encoding="ascii", errors="replace") as it:
+            return it.read().rpartition(")")[2].split()[0] != "Z"
     except OSError:
         return False
 

@@ -21,19 +21,19 @@ class Hands:
 
     def __init__(self, client: Any, fs: str, limit: float) -> None:
         """client is a CephfsClient: the manager has those blocklisted when it fails, so it sets no pin any more."""
-        self.fs, self.limit = fs, limit
+        self.client, self.fs, self.limit = client, fs, limit
         self.asked = queue.Queue()  # type: queue.Queue[Optional[Callable[[Any], Any]]]
         self.answers = queue.Queue()  # type: queue.Queue[Any]
         self.is_left = False
-        threading.Thread(target=self._work, args=(client,), name='mdbal-' + fs, daemon=True).start()
+        self.has_begun = False
 
-    def _work(self, client: Any) -> None:
+    def _work(self) -> None:
         try:
-            with open_filesystem(client, self.fs) as lib:  # mounts
+            with open_filesystem(self.client, self.fs) as lib:  # mounts
                 while self._answered(lib):
                     pass
         except Exception as error:
-            self.answers.put((False, error))
+            self.answers.put((False, NoAnswer('{} can not be mounted: {}'.format(self.fs, error))))
             self.is_left = True
 
     def _answered(self, lib: Any) -> bool:
@@ -50,6 +50,9 @@ class Hands:
         """What todo gives with the client, or the exception that it raises."""
         if self.is_left:
             raise NoAnswer('{} does not answer'.format(self.fs))
+        if not self.has_begun:
+            self.has_begun = True
+            threading.Thread(target=self._work, name='mdbal-' + self.fs, daemon=True).start()
         self.asked.put(todo)
         try:
             is_well, answer = self.answers.get(timeout=self.limit)

@@ -13,6 +13,7 @@ from .record import Planned, Record
 from .state import State
 from .texts import Trouble, id_of, listed, own_pins, pins_list, unescaped
 
+PAUSE = 5  # seconds from one check to the next, until the pins hold
 REST = 10  # seconds in which a pin that was just set may be read as its old value
 
 
@@ -172,11 +173,22 @@ class Work:
         run.end(ended)
         if ended != 'done':
             raise Trouble('{} {}: {}'.format(what, plan_id, record.stopped + run.why))
+        return '{} {}: {} of {} changes; {}'.format(what, plan_id, run.changed, run.of, self.wait_until_held())
+
+    def wait_until_held(self) -> str:
+        """Under load a rank takes up to a minute until it makes a pinned directory a root, which the driver's looks do not see."""
+        left = float(self.mgr.get_module_option('wait'))
         try:
-            held = self.check()
+            while True:
+                held = self.check()
+                if not self.record.not_held or left <= 0:
+                    return held
+                self.say('waits: {}'.format(held))
+                self.rest(PAUSE)
+                left -= PAUSE
         except Trouble as trouble:
-            held = record.held = 'not checked: {}'.format(trouble)
-        return '{} {}: {} of {} changes; {}'.format(what, plan_id, run.changed, run.of, held)
+            self.record.held = 'not checked: {}'.format(trouble)
+            return self.record.held
 
     def round(self) -> str:
         self.refuse()

@@ -9,7 +9,7 @@ from .hands import NoAnswer
 from .texts import Trouble, escaped, id_of, unescaped
 
 # The path is no option: who may set options of the manager must not choose what it runs.
-FOLDERS = (os.path.dirname(os.path.abspath(__file__)), '/usr/bin')
+FOLDERS = [os.path.dirname(os.path.abspath(__file__)), '/usr/bin']
 DONE, NOTHING, NOT_HELD = 0, 3, 4  # statuses of mdbal_ceph
 
 
