@@ -25,9 +25,9 @@ def rows_tool() -> Any:
     """The tool that writes the dumps of a stored cluster, without its runs."""
     made = types.ModuleType("ceph_rows")
     sys.modules["ceph_rows"] = made
-    with open(f"{TOP}/tools/ceph_rows", encoding="utf-8") as it:
+    with open(f"{TOP}/checks/ceph_rows", encoding="utf-8") as it:
         text = it.read()
-    made.__file__ = f"{TOP}/tools/ceph_rows"
+    made.__file__ = f"{TOP}/checks/ceph_rows"
     exec(compile(text.replace("\nsys.exit(main())", ""), made.__file__, "exec"), made.__dict__)
     return made
 

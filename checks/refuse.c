@@ -1,4 +1,4 @@
-/* Refuses one call of a program, for tools/refusals: loaded by LD_PRELOAD.
+/* Refuses one call of a program, for checks/refusals: loaded by LD_PRELOAD.
  *
  * KIND is what is counted: `growth` of memory (but for what making a thread takes), `read`, `write`, or a read or write of several
  * bytes of which only some are done: one (`short`), `half`, or all but one (`all but one`).
