@@ -1,1 +1,5 @@
+pub mod Hours
+pub mod Lines
+pub mod Names
 pub mod Records
+pub mod Words

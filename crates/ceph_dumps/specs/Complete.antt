@@ -16,3 +16,9 @@ pub record IsWord (text : List ℕ) : Type 0 where
 -- the name, a blank, the identity and a newline
 abbrev pub line_of : List ℕ → List ℕ → List ℕ
 line_of name fsid = name ++ (32 ∷ (fsid ++ (10 ∷ [])))
+
+-- a line without its newline: two words with a blank between them
+pub record AreTwoWords (line name fsid : List ℕ) : Type 0 where
+  pub whole : line ≡ name ++ 32 ∷ fsid
+  pub name_is : IsWord name
+  pub fsid_is : IsWord fsid

@@ -1,6 +1,7 @@
 pub mod Balancer
 pub mod Cluster
 pub mod Complete
+pub mod HourRecord
 pub mod Inode
 pub mod Inodes
 pub mod Listing

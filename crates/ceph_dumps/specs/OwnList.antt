@@ -1,6 +1,6 @@
 -- The list of this program's pins, as it is read: a line for each, with the rank, a blank and the path.
 use Rattle.std.specs.Prelude.{◌≡◌, ◌≢◌, ◌==◌, ◌&&◌, ◌+◌, ◌-◌, ◌*◌, ℕ, zero, suc, Bool, List, [], ◌∷◌, All}
-use Rattle.std.specs.Prelude.{Option, Some, None, drop, is_some, length, map, nat_le, slice_index, take}
+use Rattle.std.specs.Prelude.{Option, Some, None, codes, drop, is_some, length, map, nat_le, slice_index, take}
 use Rattle.std.specs.Prelude.{if◌then◌else◌}
 use Rattle.std.specs.List.{flat_map, slice_split}
 use Rattle.std.specs.Option.{unwrap_or}
@@ -29,6 +29,12 @@ named_bytes (suc n) [] = []
 named_bytes (suc n) (c ∷ cs) = named_bytes n cs
 named_bytes zero (c ∷ cs) =
     unwrap_or (octal_byte (c ∷ cs)) c ∷ named_bytes (if is_some (octal_byte (c ∷ cs)) then 3 else 0) cs
+
+-- how a name is written: a backslash, a newline and a carriage return as `getfattr` writes them, and any other byte as
+-- it is
+abbrev pub name_byte : ℕ → List ℕ
+name_byte c =
+    if c == 92 then codes "\\134" else if c == 10 then codes "\\012" else if c == 13 then codes "\\015" else c ∷ []
 
 -- how many digits a line begins with
 abbrev pub digit_count : List ℕ → ℕ

@@ -1,5 +1,5 @@
 -- A list of directories, as it is read: the path of one a line, with names as getfattr writes them.
-use Rattle.std.specs.Prelude.{◌≡◌, ◌≢◌, ◌==◌, ◌*◌, ℕ, List, [], ◌∷◌, All, Vec, drop, length, map, slice_index, true}
+use Rattle.std.specs.Prelude.{◌≡◌, ◌≢◌, ◌==◌, ℕ, List, [], ◌∷◌, All, Vec, drop, length, map, slice_index, true}
 use Rattle.std.specs.Prelude.{if◌then◌else◌}
 use Rattle.std.specs.Global.{Global}
 use Rattle.std.specs.List.{flat_map}

@@ -55,6 +55,9 @@ pub enum DumpError {
     /// This line of a list of directories is no path, or the path has an empty, `.` or `..` component.
     #[error("line {0}: expected `/PATH` with no empty, . or .. component")]
     Path(usize),
+    /// This line of the record of an hour isn't what it has to be, or the last one is cut off.
+    #[error("line {0}: expected `mdbal-hour 1`, `NAME FSID`, 64 numbers or `NUMBER PATH`, and a newline after each")]
+    Hour(usize),
     /// The file `complete` isn't the one line that the collector writes.
     #[error("expected one line `NAME FSID`")]
     Complete,

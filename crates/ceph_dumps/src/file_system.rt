@@ -2,11 +2,12 @@
 //!
 //! It has one line, `NAME FSID`: the name of the file system and the identity of its cluster. Where it is missing, the
 //! collector didn't finish.
-ghost use Rattle.std.specs.Prelude.{◌≡◌, ◌<◌, ◌≤◌, ℕ, length, slice_index, true, false};
-ghost use Rattle.std.specs.Prelude.{IfOk, IfSome, string_bytes};
-ghost use Rattle.ceph_dumps.specs.Complete.{IsWord, is_word_byte, line_of};
+ghost use Rattle.std.specs.Prelude.{◌≡◌, ◌≢◌, ◌↔◌, ◌<◌, ◌≤◌, ◌++◌, ℕ, List, codes, length, slice_index, true, false};
+ghost use Rattle.std.specs.Prelude.{IfErr, IfOk, IsTrue, MatchOption, string_bytes};
+ghost use Rattle.ceph_dumps.specs.Complete.{AreTwoWords, IsWord, is_word_byte, line_of};
 
 use crate::dump_error::DumpError;
+use crate::listing::after;
 use std::alloc::Global;
 
 /// A file system of a cluster.
@@ -39,25 +40,41 @@ fn word_length(text: &[u8]) -> usize
     text.len()
 }
 
-/// The two words of a line, if it has two.
+/// Whether a text is a word.
+fn is_word(text: &[u8]) -> bool
+    ensures { IsTrue result ↔ IsWord text.now }
+{
+    !text.is_empty() && word_length(text) == text.len()
+}
+
+/// Whether both are words.
+fn are_words(name: &[u8], fsid: &[u8]) -> bool
+    ensures { IsTrue result ↔ (IsWord name.now × IsWord fsid.now) }
+{
+    is_word(name) && is_word(fsid)
+}
+
+/// The two words of a line without its newline, if it is two with a blank between them.
 fn words_of(line: &[u8]) -> Option<(&[u8], &[u8])>
-    ensures line { IfSome result (λ words. line.now ≡ line_of words.0.now words.1.now) }
-    ensures words { IfSome result (λ words. IsWord words.0.now × IsWord words.1.now) }
+    ensures { MatchOption result ((name fsid : List ℕ) → AreTwoWords line.now name fsid → ⊥)
+        (λ words. AreTwoWords line.now words.0.now words.1.now) }
 {
     let (name, rest) = line.split_at(word_length(line));
-    let [b' ', rest @ ..] = rest else {
+    let Some(fsid) = after(rest, b" ") else {
         return None;
     };
-    let (fsid, end) = rest.split_at(word_length(rest));
-    match end {
-        [b'\n'] if !name.is_empty() && !fsid.is_empty() => Some((name, fsid)),
-        _ => None,
+    if are_words(name, fsid) {
+        Some((name, fsid))
+    } else {
+        None
     }
 }
 
 /// A word as a text.
 fn text_of(alloc: Global, word: &[u8]) -> Result<String, DumpError>
-    ensures { IfOk result (λ text. string_bytes text ≡ word.now) }
+    requires { IsWord word.now }
+    ensures text { IfOk result (λ text. string_bytes text ≡ word.now) }
+    ensures memory { IfErr result (λ error. error ≡ DumpError.Memory) }
 {
     match str::from_utf8(word) {
         Ok(text) => Ok(String::from_str(alloc, text)?),
@@ -65,16 +82,39 @@ fn text_of(alloc: Global, word: &[u8]) -> Result<String, DumpError>
     }
 }
 
+/// The file system that a line without its newline names, if it is two words with a blank between them.
+pub(crate) fn named_in(alloc: Global, line: &[u8]) -> Result<Option<FileSystem>, DumpError>
+    ensures words { IfOk result (λ found. MatchOption found ((name fsid : List ℕ) → AreTwoWords line.now name fsid → ⊥)
+        (λ system. AreTwoWords line.now (string_bytes system.name) (string_bytes system.fsid))) }
+    ensures memory { IfErr result (λ error. error ≡ DumpError.Memory) }
+{
+    let Some((name, fsid)) = words_of(line) else {
+        return Ok(None);
+    };
+    Ok(Some(FileSystem {
+        name: text_of(alloc, name)?,
+        fsid: text_of(alloc, fsid)?,
+    }))
+}
+
+/// What comes before the newline at the end of a text, if it ends with one.
+pub(crate) fn unended(text: &[u8]) -> Option<&[u8]>
+    ensures { MatchOption result ((rest : List ℕ) → text.now ≢ rest ++ codes "\n")
+        (λ rest. text.now ≡ rest.now ++ codes "\n") }
+{
+    text.strip_suffix(b"\n")
+}
+
 /// The file system that a folder is of.
 pub fn read_complete(alloc: Global, bytes: &[u8]) -> Result<FileSystem, DumpError>
     ensures line { IfOk result (λ found. bytes.now ≡ line_of (string_bytes found.name) (string_bytes found.fsid)) }
     ensures words { IfOk result (λ found. IsWord (string_bytes found.name) × IsWord (string_bytes found.fsid)) }
 {
-    let Some((name, fsid)) = words_of(bytes) else {
+    let Some(line) = unended(bytes) else {
         return Err(DumpError::Complete);
     };
-    Ok(FileSystem {
-        name: text_of(alloc, name)?,
-        fsid: text_of(alloc, fsid)?,
-    })
+    match named_in(alloc, line)? {
+        Some(found) => Ok(found),
+        None => Err(DumpError::Complete),
+    }
 }

@@ -1,8 +1,9 @@
 //! The list of the pins that a plan set before: a line `RANK NAME` each, with names as `getfattr` writes them.
 ghost use Rattle.std.specs.Prelude.{◌≡◌, ◌≤◌, ◌++◌, ◌∷◌, IfOk, IfSome, OnOk, drop, length, map, take};
+ghost use Rattle.std.specs.List.{flat_map};
 ghost use Rattle.std.specs.Str.Parse.{digits_value};
 ghost use Rattle.ceph_dumps.specs.OwnList.{ArePinsOfList, IsPinLine, behind_digits, digit_count, line_pins, list_lines};
-ghost use Rattle.ceph_dumps.specs.OwnList.{named_bytes, rank_path};
+ghost use Rattle.ceph_dumps.specs.OwnList.{name_byte, named_bytes, rank_path};
 
 use crate::dump_error::DumpError;
 use crate::listing::{number_of, push_name};
@@ -15,6 +16,28 @@ pub struct OwnPin {
     pub rank: u64,
     /// The path of the directory.
     pub path: Vec<u8>,
+}
+
+/// Adds a byte of a name: backslash, newline and return as three octal digits, all else as it is.
+fn push_byte(list: &mut Vec<u8>, byte: u8) -> Result<(), AllocError>
+    ensures { OnOk result (list.new.items ≡ list.old.items ++ name_byte byte) }
+{
+    match byte {
+        b'\\' => list.extend_from_slice(b"\\134"),
+        b'\n' => list.extend_from_slice(b"\\012"),
+        b'\r' => list.extend_from_slice(b"\\015"),
+        other => Ok(list.push(other)?),
+    }
+}
+
+/// Adds a name, as it stands in a line of a list.
+pub fn write_name(list: &mut Vec<u8>, path: &[u8]) -> Result<(), AllocError>
+    ensures { OnOk result (list.new.items ≡ list.old.items ++ flat_map name_byte path.now) }
+{
+    for byte in path {
+        push_byte(list, *byte)?;
+    }
+    Ok(())
 }
 
 /// How many digits a line begins with.

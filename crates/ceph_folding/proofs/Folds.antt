@@ -147,8 +147,15 @@ has_left ds closed left gone homes parents heats writes inodes kept nearest insi
     all_four : (o : Option Directory) (p q h k w v m n : ℕ) → p ≡ q → h ≡ k → w ≡ v → m ≡ n → option_map (with_amounts p h w m) o ≡ option_map (with_amounts q k v n) o
     all_four o p q h k w v m n up warm wrote many = rw (up, warm, wrote, many) refl
 
+-- where each place is its own home, what comes there is its own
+pub own_brought : (n i : ℕ) (f : ℕ → ℕ) → i < n → brought f (λ j. j) n i ≡ f i
+own_brought n i f l =
+    let own : eqb i i ≡ true = eq-eqb i i refl in
+    let here : cond (eqb i i) (f i) 0 ≡ f i = rw own refl in
+    sum_below-only n i (λ j. cond (eqb j i) (f j) 0) l (λ j lj other. rw (ne_eqb j i other) refl) ∙ here
+
 -- nothing is gone
-all_kept : (n : ℕ) → kept_below (λ i. false) n ≡ n
+pub all_kept : (n : ℕ) → kept_below (λ i. false) n ≡ n
 all_kept zero = refl
 all_kept (suc n) = omega (arith, all_kept n)
 
@@ -157,25 +164,22 @@ same_amounts : (o : Option Directory) (parent heat writes inodes : ℕ) → pare
 same_amounts None parent heat writes inodes up warm wrote many = refl
 same_amounts (Some d) parent heat writes inodes up warm wrote many = rw (up, warm, wrote, many) refl
 
+pub nothing_left : (ds : List Directory) → HasLeft ds ds (λ i. false) (λ i. i)
+nothing_left ds = record {
+  nearest = λ i l. home_here ds (λ i. false) i refl;
+  inside = λ i l. l;
+  size = sym (all_kept (length ds));
+  kept = λ i l is. ap (λ (k : ℕ). slice_get ds k) (all_kept i) ∙ same_amounts (slice_get ds i) _ _ _ _ (all_kept (parent_at ds i))
+      (own_brought (length ds) i (heat_at ds) l) (own_brought (length ds) i (writes_at ds) l) (own_brought (length ds) i (inodes_at ds) l);
+}
+
 pub nothing_folded : (ds : List Directory) → IsFolded ds ds
 nothing_folded ds = (
   λ i. false,
   λ i. i,
   record { plain = λ i l is. apart false is refl; below = λ i some l is. apart false is refl; coldest = λ i is. apart false is refl },
-  record {
-    nearest = λ i l. home_here ds (λ i. false) i refl;
-    inside = λ i l. l;
-    size = sym (all_kept (length ds));
-    kept = λ i l is. ap (λ (k : ℕ). slice_get ds k) (all_kept i) ∙ same_amounts (slice_get ds i) _ _ _ _ (all_kept (parent_at ds i))
-        (sum_below-picked (length ds) i (heat_at ds) l) (sum_below-picked (length ds) i (writes_at ds) l) (sum_below-picked (length ds) i (inodes_at ds) l);
-  },
+  nothing_left ds,
 )
-  where
-    sum_below-picked : (n i : ℕ) (f : ℕ → ℕ) → i < n → brought f (λ j. j) n i ≡ f i
-    sum_below-picked n i f l =
-        let own : eqb i i ≡ true = eq-eqb i i refl in
-        let here : cond (eqb i i) (f i) 0 ≡ f i = rw own refl in
-        sum_below-only n i (λ j. cond (eqb j i) (f j) 0) l (λ j lj other. rw (ne_eqb j i other) refl) ∙ here
 
 -- sums over the directories that are left
 sum_listed : (f : Directory → ℕ) (ds : List Directory) → sum_by f ds ≡ sum_below (length ds) (λ i. option_map_or f (slice_get ds i) 0)
@@ -260,3 +264,8 @@ brought-more amount home sums n at sum size inside is before there l =
     get_or-set_other sums (home at) there sum 0 other
     ∙ (before there l ∙ (sym (add-zero (sum_below at came)) ∙ (ap (λ (k : ℕ). sum_below at came + k) (sym nothing) ∙ sym more))))
     (cases_eq there (home at))
+
+-- what comes to a home is the same where the amounts are
+pub brought-alike : (one two home : ℕ → ℕ) (n there : ℕ) → ((i : ℕ) → i < n → one i ≡ two i) → brought one home n there ≡ brought two home n there
+brought-alike one two home n there same =
+    sum_below-same n (λ i. cond (eqb (home i) there) (one i) 0) (λ i. cond (eqb (home i) there) (two i) 0) (λ i l. ap (λ (k : ℕ). cond (eqb (home i) there) k 0) (same i l))

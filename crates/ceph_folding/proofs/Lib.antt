@@ -1,3 +1,4 @@
+pub mod FoldedHours
 pub mod Folds
 pub mod HeatBelow
 pub mod Keys

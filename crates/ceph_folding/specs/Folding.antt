@@ -1,9 +1,11 @@
 -- What folding leaves: the directories that are kept, each with what the folded ones below it had.
 use Rattle.std.specs.Prelude.{◌≡◌, ◌==◌, ◌<◌, ◌≤◌, ◌+◌, ◌&&◌, ◌⊎◌, ℕ, Bool, true, false, not, nat_le, List}
-use Rattle.std.specs.Prelude.{length, slice_get, slice_index, Option, None, if◌then◌else◌}
+use Rattle.std.specs.Prelude.{All, Vec, length, slice_get, slice_index, Option, None, if◌then◌else◌}
+use Rattle.std.specs.Global.{Global}
 use Rattle.std.specs.List.{sum_by}
 use Rattle.std.specs.Option.{option_map}
 use Rattle.mds_types.specs.Sums.{count_below, sum_below}
+use Rattle.ceph_dumps.specs.OneForOne.{AreOneForOne}
 use Rattle.ceph_snapshot.specs.declared.directory.Directory.{Directory}
 use Rattle.ceph_snapshot.specs.Holding.{climb, earlier_at, heat_at, inodes_at, is_holding, is_kept_at}
 use Rattle.ceph_snapshot.specs.Holding.{is_spread_at, most_heat, now_at, parent_at, writes_at}
@@ -96,6 +98,28 @@ pub record HasLeft (directories left : List Directory) (gone : ℕ → Bool) (ho
   pub size : length left ≡ kept_below gone (length directories)
   pub kept : (i : ℕ) → i < length directories → gone i ≡ false
       → slice_get left (kept_below gone i) ≡ folded directories gone home i
+
+-- the heats of an earlier hour where these are gone: each kept directory has, at its new place, what all had then whose
+-- home it is
+pub record AreHeatsLeft (gone : ℕ → Bool) (home : ℕ → ℕ) (heats left : List ℕ) : Type 0 where
+  pub size : length left ≡ kept_below gone (length heats)
+  pub kept : (i : ℕ) → i < length heats → gone i ≡ false
+      → slice_index left (kept_below gone i) ≡ brought (slice_index heats) home (length heats) i
+
+-- each earlier hour follows the directories to the same homes
+abbrev pub AreHoursLeft : (ℕ → Bool) → (ℕ → ℕ) → List (Vec ℕ Global) → List (Vec ℕ Global) → Type 0
+AreHoursLeft gone home hours left =
+    AreOneForOne (λ (hour one : Vec ℕ Global). AreHeatsLeft gone home hour.items one.items) hours left
+
+abbrev pub AreHoursFolded :
+    List Directory → List Directory → List (Vec ℕ Global) → List (Vec ℕ Global) → Type 0
+AreHoursFolded directories left hours hours_left =
+    (gone : ℕ → Bool) × (home : ℕ → ℕ) × HasLeft directories left gone home
+    × AreHoursLeft gone home hours hours_left
+
+-- each earlier hour has a heat for each of n directories
+abbrev pub AreHoursOf : ℕ → List (Vec ℕ Global) → Type 0
+AreHoursOf n hours = All (λ (hour : Vec ℕ Global). length hour.items ≡ n) hours
 
 -- only plain directories are gone, each with all below it; where one is gone, the coldest are
 pub record AreGone (directories : List Directory) (gone : ℕ → Bool) : Type 0 where

@@ -2,23 +2,9 @@
 ghost use Rattle.std.specs.Prelude.{◌≡◌, ◌<◌, ℕ, length, slice_index, IfOk};
 ghost use Rattle.ceph_folding.specs.Amounts.{amount_at, amount_of};
 ghost use Rattle.ceph_folding.specs.Folding.{brought};
-ghost use Rattle.ceph_snapshot.specs.Holding.{heat_at};
 
 use ceph_snapshot::{Directory, SnapshotError};
 use std::alloc::{AllocError, Global};
-
-/// The heat of each directory.
-pub fn own_heats(alloc: Global, directories: &[Directory]) -> Result<Vec<u64>, AllocError>
-    ensures size { IfOk result (λ heats. length heats.items ≡ length directories.now) }
-    ensures heats { IfOk result (λ heats. (i : ℕ) → i < length directories.now
-        → slice_index heats.items i ≡ heat_at directories.now i) }
-{
-    let mut heats = Vec::with_capacity(alloc, directories.len())?;
-    for directory in directories {
-        heats.push(directory.heat)?;
-    }
-    Ok(heats)
-}
 
 /// What is added up of directories.
 #[derive(Clone, Copy)]
@@ -44,6 +30,42 @@ impl Amount {
     }
 }
 
+/// How much of it each directory has.
+fn amounts_of(
+    alloc: Global,
+    directories: &[Directory],
+    amount: Amount,
+) -> Result<Vec<u64>, AllocError>
+    ensures size { IfOk result (λ amounts. length amounts.items ≡ length directories.now) }
+    ensures amounts { IfOk result (λ amounts. (i : ℕ) → i < length directories.now
+        → slice_index amounts.items i ≡ amount_at amount directories.now i) }
+{
+    let mut amounts = Vec::with_capacity(alloc, directories.len())?;
+    for directory in directories {
+        amounts.push(amount.of(directory))?;
+    }
+    Ok(amounts)
+}
+
+/// How much each place has once what each place has has come to its home.
+pub fn at_homes(alloc: Global, amounts: &[u64], homes: &[usize]) -> Result<Vec<u64>, SnapshotError>
+    requires size { length homes.now ≡ length amounts.now }
+    requires inside { (i : ℕ) → i < length amounts.now → slice_index homes.now i < length amounts.now }
+    ensures size { IfOk result (λ sums. length sums.items ≡ length amounts.now) }
+    ensures sums { IfOk result (λ sums. (there : ℕ) → there < length amounts.now → slice_index sums.items there
+        ≡ brought (slice_index amounts.now) (slice_index homes.now) (length amounts.now) there) }
+{
+    let mut sums = vec![in alloc; 0u64; amounts.len()]?;
+    for at in 0..amounts.len() {
+        let home = homes[at];
+        let Some(sum) = sums[home].checked_add(amounts[at]) else {
+            return Err(SnapshotError::TooMany);
+        };
+        sums[home] = sum;
+    }
+    Ok(sums)
+}
+
 /// How much each place has once what each directory has has come to its home.
 pub fn brought_home(
     alloc: Global,
@@ -57,13 +79,7 @@ pub fn brought_home(
     ensures sums { IfOk result (λ sums. (there : ℕ) → there < length directories.now → slice_index sums.items there
         ≡ brought (amount_at amount directories.now) (slice_index homes.now) (length directories.now) there) }
 {
-    let mut sums = vec![in alloc; 0u64; directories.len()]?;
-    for (at, directory) in directories.iter().enumerate() {
-        let home = homes[at];
-        let Some(sum) = sums[home].checked_add(amount.of(directory)) else {
-            return Err(SnapshotError::TooMany);
-        };
-        sums[home] = sum;
-    }
+    let amounts = amounts_of(alloc, directories, amount)?;
+    let sums = at_homes(alloc, &amounts, homes)?;
     Ok(sums)
 }

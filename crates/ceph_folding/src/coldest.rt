@@ -8,8 +8,7 @@ ghost use Rattle.ceph_folding.specs.Folding.{AreGone, HasToStay, IsHeatBelow, Is
 ghost use Rattle.ceph_snapshot.specs.Holding.{AreParentsFirst, is_marked, parent_at};
 ghost use Rattle.ceph_folding.specs.Keys.{goes, is_at_most, is_below, key_at, passes};
 
-use crate::amounts::own_heats;
-use ceph_snapshot::{Directory, SnapshotError};
+use ceph_snapshot::{Directory, SnapshotError, own_heats};
 use std::alloc::{AllocError, Global};
 
 /// What a directory goes by. Those with the least go first: the coldest, and of two that are as cold the last.

@@ -1,9 +1,10 @@
 //! Folds directories into those above them: the coldest, where there are more than the planner takes, or all but
 //! those that are units.
 ghost use Rattle.std.specs.Prelude.{◌≡◌, ◌+◌, ◌<◌, ◌≤◌, ◌^◌, ℕ, IsTrue, false, true};
-ghost use Rattle.std.specs.Prelude.{length, min, slice_get, slice_index, IfOk, IsOkAnd};
+ghost use Rattle.std.specs.Prelude.{length, min, slice_get, slice_index, IfOk, IsOkAnd, OnErr};
 ghost use Rattle.std.specs.Option.{option_map};
-ghost use Rattle.ceph_folding.specs.Folding.{AreUnitsLeft, HasLeft, IsFolded, IsHome, IsPlain, StillKept};
+ghost use Rattle.ceph_folding.specs.Folding.{AreHoursFolded, AreHoursLeft, AreHoursOf, AreUnitsLeft, HasLeft};
+ghost use Rattle.ceph_folding.specs.Folding.{IsFolded, IsHome, IsPlain, StillKept};
 ghost use Rattle.ceph_folding.specs.Folding.{all_heat, all_inodes, all_writes};
 ghost use Rattle.ceph_folding.specs.Folding.{kept_below, put_together, with_amounts};
 ghost use Rattle.ceph_snapshot.specs.Holding.{AreParentsFirst, is_marked, parent_at};
@@ -11,6 +12,7 @@ ghost use Rattle.ceph_snapshot.specs.Policies.{KeepUnpinnable, StillKeepUnpinnab
 
 use crate::amounts::{Amount, brought_home};
 use crate::coldest::{coldest, is_plain};
+use crate::hours::folded_hours;
 use ceph_snapshot::{Directory, SnapshotError};
 use std::alloc::{AllocError, Global};
 
@@ -142,17 +144,21 @@ fn close_up(
     kept
 }
 
-/// The directories that are kept, with what those had that are gone.
+/// The directories that are kept, with what those had that are gone. The heats of earlier hours go to the same homes.
 fn folded(
     alloc: Global,
     mut directories: Vec<Directory>,
     gone: &[bool],
+    hours: &mut Vec<Vec<u64>>,
 ) -> Result<Vec<Directory>, SnapshotError>
     requires first { AreParentsFirst directories.items }
     requires few { length directories.items ≤ 2 ^ 32 }
     requires size { length gone.now ≡ length directories.items }
     requires root { is_marked gone.now 0 ≡ false }
-    ensures { IfOk result (λ left. (home : ℕ → ℕ) × HasLeft directories.items left.items (is_marked gone.now) home) }
+    requires hours { AreHoursOf (length directories.items) hours.old.items }
+    ensures left { IfOk result (λ left. (home : ℕ → ℕ) × HasLeft directories.items left.items (is_marked gone.now) home
+        × AreHoursLeft (is_marked gone.now) home hours.old.items hours.new.items) }
+    ensures unchanged { OnErr result (hours.new.items ≡ hours.old.items) }
 {
     let before = directories.as_slice();
     let homes = homes(alloc, before, gone)?;
@@ -161,21 +167,30 @@ fn folded(
     let writes = brought_home(alloc, before, at_home, Amount::Writes)?;
     let inodes = brought_home(alloc, before, at_home, Amount::Inodes)?;
     let parents = new_parents(alloc, before, gone, at_home)?;
+    let then = folded_hours(alloc, hours, gone, at_home)?;
     let kept = close_up(&mut directories, gone, &parents, &heats, &writes, &inodes);
     directories.truncate(kept);
+    *hours = then;
     Ok(directories)
 }
 
 /// Folds the coldest directories, each with all below it, until `limit` are left: their heat, writes and inodes go to
-/// the nearest directory above them that is kept. Gives how many were folded. Directories that aren't plain stay.
+/// the nearest directory above them that is kept. Gives how many were folded. Directories that aren't plain stay. In
+/// each earlier hour, `hours[h][i]` is the heat of directory i, which goes the same way.
 pub fn fold(
     alloc: Global,
     directories: Vec<Directory>,
     limit: usize,
+    hours: &mut Vec<Vec<u64>>,
 ) -> Result<(Vec<Directory>, usize), SnapshotError>
+    requires hours { AreHoursOf (length directories.items) hours.old.items }
     ensures limit { IfOk result (λ found. length found.0.items ≡ min (length directories.items) limit) }
     ensures folded { IfOk result (λ found. IsFolded directories.items found.0.items) }
     ensures same { length directories.items ≤ limit → IsOkAnd result (λ found. found.0.items ≡ directories.items) }
+    ensures hours { IfOk result (λ found.
+        AreHoursFolded directories.items found.0.items hours.old.items hours.new.items) }
+    ensures unchanged { OnErr result (hours.new.items ≡ hours.old.items) }
+    ensures same_hours { length directories.items ≤ limit → hours.new.items ≡ hours.old.items }
     ensures heat { IfOk result (λ found. all_heat found.0.items ≡ all_heat directories.items) }
     ensures writes { IfOk result (λ found. all_writes found.0.items ≡ all_writes directories.items) }
     ensures inodes { IfOk result (λ found. all_inodes found.0.items ≡ all_inodes directories.items) }
@@ -192,7 +207,7 @@ pub fn fold(
         return Err(SnapshotError::TooMany);
     }
     let gone = coldest(alloc, &directories, limit)?;
-    let left = folded(alloc, directories, &gone)?;
+    let left = folded(alloc, directories, &gone, hours)?;
     let folded = count - left.len();
     Ok((left, folded))
 }
@@ -232,14 +247,20 @@ fn others(alloc: Global, directories: &[Directory], units: &[bool]) -> Result<Ve
 }
 
 /// Folds each plain directory that is no unit: its heat, writes and inodes go to the nearest directory above it that is
-/// kept. `units[i]` says whether directory i is a unit. Gives how many were folded.
+/// kept. `units[i]` says whether directory i is a unit. Gives how many were folded. In each earlier hour, `hours[h][i]`
+/// is the heat of directory i, which goes the same way.
 pub fn fold_to_units(
     alloc: Global,
     directories: Vec<Directory>,
     units: &[bool],
+    hours: &mut Vec<Vec<u64>>,
 ) -> Result<(Vec<Directory>, usize), SnapshotError>
-    requires { length units.now ≡ length directories.items }
+    requires units { length units.now ≡ length directories.items }
+    requires hours { AreHoursOf (length directories.items) hours.old.items }
     ensures units { IfOk result (λ found. AreUnitsLeft directories.items found.0.items (is_marked units.now)) }
+    ensures hours { IfOk result (λ found.
+        AreHoursFolded directories.items found.0.items hours.old.items hours.new.items) }
+    ensures unchanged { OnErr result (hours.new.items ≡ hours.old.items) }
     ensures heat { IfOk result (λ found. all_heat found.0.items ≡ all_heat directories.items) }
     ensures writes { IfOk result (λ found. all_writes found.0.items ≡ all_writes directories.items) }
     ensures inodes { IfOk result (λ found. all_inodes found.0.items ≡ all_inodes directories.items) }
@@ -253,7 +274,7 @@ pub fn fold_to_units(
         return Err(SnapshotError::TooMany);
     }
     let gone = others(alloc, &directories, units)?;
-    let left = folded(alloc, directories, &gone)?;
+    let left = folded(alloc, directories, &gone, hours)?;
     let folded = count - left.len();
     Ok((left, folded))
 }

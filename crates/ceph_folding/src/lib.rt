@@ -5,5 +5,6 @@
 mod amounts;
 mod coldest;
 pub mod folding;
+mod hours;
 
 pub use folding::{fold, fold_to_units};

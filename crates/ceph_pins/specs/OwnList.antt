@@ -1,17 +1,12 @@
 -- The list of the pins of this program, byte by byte.
-use Rattle.std.specs.Prelude.{◌==◌, ◌++◌, ℕ, zero, suc, List, [], ◌∷◌, codes, decimal, length, slice_get, Option}
-use Rattle.std.specs.Prelude.{Some, if◌then◌else◌}
+use Rattle.std.specs.Prelude.{◌++◌, ℕ, zero, suc, List, [], codes, decimal, length, slice_get, Option, Some}
 use Rattle.std.specs.List.{flat_map}
+use Rattle.ceph_dumps.specs.OwnList.{name_byte}
 use Rattle.ceph_plan.specs.Changes.{applied}
 use Rattle.ceph_plan.specs.Rule.{row_at}
 use Rattle.ceph_plan.specs.declared.row.PinChange.{PinChange}
 use Rattle.ceph_plan.specs.declared.row.PinRow.{PinRow}
 use Rattle.ceph_snapshot.specs.declared.directory.Directory.{Directory}
-
--- a backslash, a newline and a carriage return as `getfattr` writes them, and any other byte as it is
-abbrev pub name_byte : ℕ → List ℕ
-name_byte c =
-    if c == 92 then codes "\\134" else if c == 10 then codes "\\012" else if c == 13 then codes "\\015" else c ∷ []
 
 -- the line of a pin
 abbrev pub own_line : ℕ → List ℕ → List ℕ

@@ -1,35 +1,13 @@
 //! The list of the pins that this program set: a line `RANK NAME` each, with names as `getfattr` writes them.
 ghost use Rattle.std.specs.Prelude.{◌≡◌, ◌++◌, IfOk, None, OnOk, slice_get, slice_index_or};
-ghost use Rattle.std.specs.List.{flat_map};
-ghost use Rattle.ceph_pins.specs.OwnList.{pin_line_of, name_byte, own_line, own_list};
+ghost use Rattle.ceph_pins.specs.OwnList.{own_line, own_list, pin_line_of};
 
 use crate::pins::pins_after;
+use ceph_dumps::write_name;
 use ceph_plan::{PinChange, PinRow};
 use ceph_snapshot::Directory;
 use mds_types::Rank;
 use std::alloc::{AllocError, Global};
-
-/// Adds a byte of a name: backslash, newline and return as three octal digits, all else as it is.
-fn push_byte(list: &mut Vec<u8>, byte: u8) -> Result<(), AllocError>
-    ensures { OnOk result (list.new.items ≡ list.old.items ++ name_byte byte) }
-{
-    match byte {
-        b'\\' => list.extend_from_slice(b"\\134"),
-        b'\n' => list.extend_from_slice(b"\\012"),
-        b'\r' => list.extend_from_slice(b"\\015"),
-        other => Ok(list.push(other)?),
-    }
-}
-
-/// Adds a name.
-fn push_name(list: &mut Vec<u8>, path: &[u8]) -> Result<(), AllocError>
-    ensures { OnOk result (list.new.items ≡ list.old.items ++ flat_map name_byte path.now) }
-{
-    for byte in path {
-        push_byte(list, *byte)?;
-    }
-    Ok(())
-}
 
 /// Adds the line of a pin.
 fn push_line(alloc: Global, list: &mut Vec<u8>, rank: Rank, path: &[u8]) -> Result<(), AllocError>
@@ -38,7 +16,7 @@ fn push_line(alloc: Global, list: &mut Vec<u8>, rank: Rank, path: &[u8]) -> Resu
     let number = format!(in alloc; "{}", rank.number())?;
     list.extend_from_slice(number.as_bytes())?;
     list.push(b' ')?;
-    push_name(list, path)?;
+    write_name(list, path)?;
     list.push(b'\n')?;
     Ok(())
 }

@@ -6,11 +6,11 @@ use Rattle.std.proofs.lemmas.Option.{none-some}
 use Rattle.std.specs.Option.{option_map_or}
 use Rattle.mds_types.specs.Problem.{no_row}
 use Rattle.mds_types.specs.declared.problem.ProblemRow.{ProblemRow}
-use Rattle.mds_types.proofs.SumsLemmas.{sum_below_more}
+use Rattle.mds_types.proofs.SumsLemmas.{sum_below-same, sum_below_more}
 use Rattle.ceph_snapshot.specs.declared.directory.Directory.{Directory}
 use Rattle.ceph_snapshot.specs.declared.held.Held.{Held}
 use Rattle.ceph_snapshot.specs.declared.held.Held.TheVariants.{Free, Pinned, Spread}
-use Rattle.ceph_snapshot.specs.Holding.{heat_at, held_at, held_below, is_at, is_spread_at, most_heat}
+use Rattle.ceph_snapshot.specs.Holding.{held_at, held_below_then, is_at, is_spread_at, most_heat}
 use Rattle.ceph_snapshot.specs.Rows.{AreRowsOf, is_free, planned_row}
 
 -- one more value after those of the first n
@@ -71,44 +71,51 @@ counted-elsewhere found hold spread heat r counts elsewhere =
     (cases_Bool (is_at hold r))
 
 -- the heat that is held at each rank, as far as 64 bits can count it
-abbrev pub AreHeld : List Directory → List Held → List ℕ → List ℕ → ℕ → Type 0
-AreHeld ds holds spread heats at =
-    (r : ℕ) → r < 64 → slice_index heats r ≡ min most_heat (slice_index spread r + held_below ds holds r at)
+abbrev pub AreHeld : List Directory → List Held → (ℕ → ℕ) → List ℕ → List ℕ → ℕ → Type 0
+AreHeld ds holds warm spread heats at =
+    (r : ℕ) → r < 64 → slice_index heats r ≡ min most_heat (slice_index spread r + held_below_then ds holds warm r at)
 
-held-split : (ds : List Directory) (holds : List Held) (r at : ℕ)
-    → held_below ds holds r (at + 1) ≡ held_below ds holds r at + cond (is_at (held_at holds at) r && not (is_spread_at ds at)) (heat_at ds at) 0
-held-split ds holds r at = sum_below_more at (λ i. cond (is_at (held_at holds i) r && not (is_spread_at ds i)) (heat_at ds i) 0)
+held-split : (ds : List Directory) (holds : List Held) (warm : ℕ → ℕ) (r at : ℕ)
+    → held_below_then ds holds warm r (at + 1) ≡ held_below_then ds holds warm r at + cond (is_at (held_at holds at) r && not (is_spread_at ds at)) (warm at) 0
+held-split ds holds warm r at = sum_below_more at (λ i. cond (is_at (held_at holds i) r && not (is_spread_at ds i)) (warm i) 0)
 
-unheld : (ds : List Directory) (holds : List Held) (found : Option ℕ) (r at : ℕ) → IsCounted found (held_at holds at) (is_spread_at ds at) → found ≢ Some r
-    → held_below ds holds r at ≡ held_below ds holds r (at + 1)
-unheld ds holds found r at counts elsewhere =
-    sym (held-split ds holds r at
-    ∙ (ap (λ (k : ℕ). held_below ds holds r at + k) (counted-elsewhere found (held_at holds at) (is_spread_at ds at) (heat_at ds at) r counts elsewhere)
-    ∙ add-zero (held_below ds holds r at)))
+unheld : (ds : List Directory) (holds : List Held) (warm : ℕ → ℕ) (found : Option ℕ) (r at : ℕ) → IsCounted found (held_at holds at) (is_spread_at ds at) → found ≢ Some r
+    → held_below_then ds holds warm r at ≡ held_below_then ds holds warm r (at + 1)
+unheld ds holds warm found r at counts elsewhere =
+    sym (held-split ds holds warm r at
+    ∙ (ap (λ (k : ℕ). held_below_then ds holds warm r at + k) (counted-elsewhere found (held_at holds at) (is_spread_at ds at) (warm at) r counts elsewhere)
+    ∙ add-zero (held_below_then ds holds warm r at)))
 
-pub held-same : (ds : List Directory) (holds : List Held) (spread heats : List ℕ) (at : ℕ) → IsCounted None (held_at holds at) (is_spread_at ds at)
-    → AreHeld ds holds spread heats at → AreHeld ds holds spread heats (at + 1)
-held-same ds holds spread heats at counts before r l =
-    before r l ∙ ap (λ (k : ℕ). min most_heat (slice_index spread r + k)) (unheld ds holds None r at counts (none-some r))
+pub held-same : (ds : List Directory) (holds : List Held) (warm : ℕ → ℕ) (spread heats : List ℕ) (at : ℕ) → IsCounted None (held_at holds at) (is_spread_at ds at)
+    → AreHeld ds holds warm spread heats at → AreHeld ds holds warm spread heats (at + 1)
+held-same ds holds warm spread heats at counts before r l =
+    before r l ∙ ap (λ (k : ℕ). min most_heat (slice_index spread r + k)) (unheld ds holds warm None r at counts (none-some r))
 
-pub held-more : (ds : List Directory) (holds : List Held) (spread heats : List ℕ) (at number sum : ℕ) → length heats ≡ 64 → number < 64
-    → IsCounted (Some number) (held_at holds at) (is_spread_at ds at) → sum ≡ min most_heat (slice_index heats number + heat_at ds at)
-    → AreHeld ds holds spread heats at → AreHeld ds holds spread (set heats number sum) (at + 1)
-held-more ds holds spread heats at number sum size small counts is before r l =
+pub held-more : (ds : List Directory) (holds : List Held) (warm : ℕ → ℕ) (spread heats : List ℕ) (at number sum : ℕ) → length heats ≡ 64 → number < 64
+    → IsCounted (Some number) (held_at holds at) (is_spread_at ds at) → sum ≡ min most_heat (slice_index heats number + warm at)
+    → AreHeld ds holds warm spread heats at → AreHeld ds holds warm spread (set heats number sum) (at + 1)
+held-more ds holds warm spread heats at number sum size small counts is before r l =
     ⊎_elim (λ (same : r ≡ number).
-    let here : held_below ds holds r (at + 1) ≡ held_below ds holds r at + heat_at ds at =
-    held-split ds holds r at
-    ∙ ap (λ (k : ℕ). held_below ds holds r at + k) (counted-there (Some number) (held_at holds at) (is_spread_at ds at) (heat_at ds at) r counts (ap (λ (n : ℕ). Some n) (sym same))) in
+    let here : held_below_then ds holds warm r (at + 1) ≡ held_below_then ds holds warm r at + warm at =
+    held-split ds holds warm r at
+    ∙ ap (λ (k : ℕ). held_below_then ds holds warm r at + k) (counted-there (Some number) (held_at holds at) (is_spread_at ds at) (warm at) r counts (ap (λ (n : ℕ). Some n) (sym same))) in
     ap (λ (k : ℕ). slice_index (set heats number sum) k) same
     ∙ (get_or-set_same heats number sum 0 (subst (λ (m : ℕ). number < m) (sym size) small)
-    ∙ (is ∙ (ap (λ (k : ℕ). min most_heat (k + heat_at ds at)) (ap (slice_index heats) (sym same) ∙ before r l)
-    ∙ (capped-add most_heat (slice_index spread r + held_below ds holds r at) (heat_at ds at)
-    ∙ ap (min most_heat) (add_assoc (slice_index spread r) (held_below ds holds r at) (heat_at ds at) ∙ ap (λ (k : ℕ). slice_index spread r + k) (sym here)))))))
+    ∙ (is ∙ (ap (λ (k : ℕ). min most_heat (k + warm at)) (ap (slice_index heats) (sym same) ∙ before r l)
+    ∙ (capped-add most_heat (slice_index spread r + held_below_then ds holds warm r at) (warm at)
+    ∙ ap (min most_heat) (add_assoc (slice_index spread r) (held_below_then ds holds warm r at) (warm at) ∙ ap (λ (k : ℕ). slice_index spread r + k) (sym here)))))))
     (λ (other : r ≢ number).
     get_or-set_other heats number r sum 0 other
     ∙ (before r l ∙ ap (λ (k : ℕ). min most_heat (slice_index spread r + k))
-    (unheld ds holds (Some number) r at counts (λ found. other (ap (λ (o : Option ℕ). option_map_or (λ (n : ℕ). n) o 0) (sym found))))))
+    (unheld ds holds warm (Some number) r at counts (λ found. other (ap (λ (o : Option ℕ). option_map_or (λ (n : ℕ). n) o 0) (sym found))))))
     (cases_eq r number)
+
+-- what is held does not change with heats that are the same
+pub held-alike : (ds : List Directory) (holds : List Held) (warm cool : ℕ → ℕ) (r n : ℕ) → ((i : ℕ) → i < n → warm i ≡ cool i)
+    → held_below_then ds holds warm r n ≡ held_below_then ds holds cool r n
+held-alike ds holds warm cool r n same =
+    sum_below-same n (λ i. cond (is_at (held_at holds i) r && not (is_spread_at ds i)) (warm i) 0) (λ i. cond (is_at (held_at holds i) r && not (is_spread_at ds i)) (cool i) 0)
+    (λ i l. ap (λ (k : ℕ). cond (is_at (held_at holds i) r && not (is_spread_at ds i)) k 0) (same i l))
 
 -- the place before one that is neither the first nor the second
 pub before-inside : (i n : ℕ) → 1 < i → i ≤ n → (0 < i - 1) × (i - 1 < n)

@@ -1,14 +1,13 @@
 -- The number that dumps name for a directory, once all that was seen is counted.
-use Rattle.std.proofs.Common.{◌≡◌, ◌∙◌, ◌<◌, ◌*◌, ◌+◌, ◌==◌, ◌&&◌, cond, ◌∷◌, [], ℕ, suc, zero, All, Bool, List, Option, Some, None, length, map, nat_lt, slice_get, refl, ap, sym, is_some}
+use Rattle.std.proofs.Common.{◌≡◌, ◌∙◌, ◌<◌, ◌*◌, ◌+◌, ◌==◌, ◌&&◌, cond, ◌∷◌, [], ℕ, suc, All, Bool, List, Option, Some, None, length, map, nat_lt, slice_get, refl, ap, sym, is_some}
 use Rattle.std.specs.List.{count_by, fold}
 use Rattle.std.specs.Option.{option_map, option_or, unwrap_or}
 use Rattle.std.proofs.lemmas.List.Sums.{sum_by-cons}
 use Rattle.std.proofs.lemmas.Option.{none-some}
-use Rattle.ceph_snapshot.specs.declared.directory.Directory.{Directory}
 use Rattle.ceph_snapshot.specs.declared.tree.Node.{Node}
 use Rattle.ceph_snapshot.specs.declared.tree.Sighting.{Sighting}
-use Rattle.ceph_snapshot.specs.Doubts.{have_left, is_doubt, is_named, is_named_doubtful, is_seen_doubtful, numbers_with, with_numbers}
-use Rattle.ceph_snapshot.specs.Gathered.{PathNumber, PathPin, numbers_of, path_pin}
+use Rattle.ceph_snapshot.specs.Doubts.{have_left, is_doubt, is_named, is_named_doubtful, numbers_with, with_numbers}
+use Rattle.ceph_snapshot.specs.Gathered.{PathNumber, PathPin, path_pin}
 use Rattle.ceph_snapshot.specs.Sightings.{Account, HaveOwnPaths, PathHeat, account_at, account_by, account_of, inode_seen, with_path}
 use Rattle.ceph_snapshot.proofs.Sighted.{inode_path}
 

@@ -1,6 +1,7 @@
 pub mod Adding
 pub mod Beaten
 pub mod Doubtful
+pub mod Earlier
 pub mod Holders
 pub mod Listed
 pub mod Lookups

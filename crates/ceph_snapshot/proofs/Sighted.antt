@@ -14,7 +14,7 @@ use Rattle.ceph_snapshot.specs.Authority.{node_path_at}
 use Rattle.ceph_snapshot.specs.Doubts.{with_listed}
 use Rattle.ceph_snapshot.specs.Gathered.{seen_heat}
 use Rattle.ceph_snapshot.specs.Holding.{most_heat}
-use Rattle.ceph_snapshot.specs.Sightings.{AreCold, HasSeen, HaveOwnPaths, PathHeat, Position, Account, counts, inode_seen, is_seen_by, mean_of, mean_account, position_of, sum_at, account_of, account_at, account_by, account_with, with_path}
+use Rattle.ceph_snapshot.specs.Sightings.{AreCold, HasSeen, HaveOwnPaths, PathHeat, Position, Account, counts, is_seen_by, mean_of, mean_account, position_of, sum_at, account_of, account_at, account_by, account_with, with_path}
 use Rattle.ceph_snapshot.proofs.Adding.{capped-add}
 use Rattle.ceph_snapshot.proofs.Numbers.{path_account}
 use Rattle.ceph_snapshot.proofs.Placing.{at-other, at-same}

@@ -89,11 +89,16 @@ is_at Free r = false
 is_at (Pinned rank) r = rank == r
 is_at (Spread rank) r = rank == r
 
--- the heat of the first n directories that are held at rank r, but for those that are spread themselves
-abbrev pub held_below : List Directory → List Held → ℕ → ℕ → ℕ
-held_below directories holds r n =
+-- where directory i has this heat, that of the first n directories that are held at rank r, but for those that are
+-- spread themselves
+abbrev pub held_below_then : List Directory → List Held → (ℕ → ℕ) → ℕ → ℕ → ℕ
+held_below_then directories holds heat r n =
     sum_below n
-    (λ i. if is_at (held_at holds i) r && not (is_spread_at directories i) then heat_at directories i else 0)
+    (λ i. if is_at (held_at holds i) r && not (is_spread_at directories i) then heat i else 0)
+
+-- and where each has its own
+abbrev pub held_below : List Directory → List Held → ℕ → ℕ → ℕ
+held_below directories holds r n = held_below_then directories holds (heat_at directories) r n
 
 -- the greatest number of 64 bits
 abbrev pub most_heat : ℕ

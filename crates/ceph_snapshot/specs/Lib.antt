@@ -3,6 +3,7 @@ pub mod Doubts
 pub mod Facts
 pub mod Gathered
 pub mod Holding
+pub mod Hours
 pub mod Mounts
 pub mod Names
 pub mod Places

@@ -16,11 +16,15 @@ is_free (Spread rank) = false
 abbrev pub free_heat : List Directory → List Held → ℕ → ℕ
 free_heat directories holds i = if is_free (held_at holds i) then heat_at directories i else 0
 
+-- where directory i has this heat, what of it is planned: what a row can count, if nothing holds it
+abbrev pub planned_heat : List Held → (ℕ → ℕ) → ℕ → ℕ
+planned_heat holds heat i = if is_free (held_at holds i) then min (heat i) (2 ^ 40) else 0
+
 -- what nothing holds is planned with its heat and inodes, as far as a row can count them; what is held with none
 abbrev pub planned_row : List Directory → List Held → ℕ → ProblemRow
 planned_row directories holds i = record {
   parent = parent_at directories i;
-  heat = if is_free (held_at holds i) then min (heat_at directories i) (2 ^ 40) else 0;
+  heat = planned_heat holds (heat_at directories) i;
   inodes = if is_free (held_at holds i) then min (inodes_at directories i) (2 ^ 32 - 1) else 0;
   now = now_at directories i;
 }

@@ -1,9 +1,11 @@
 //! A directory of a live CephFS.
 
-ghost use Rattle.std.specs.Prelude.{◌≡◌, ◌||◌};
+ghost use Rattle.std.specs.Prelude.{◌≡◌, ◌<◌, ◌||◌, ℕ, length, slice_index, IfOk};
+ghost use Rattle.ceph_snapshot.specs.Holding.{heat_at};
 
 use ceph_dumps::EphemeralPin;
 use mds_types::Rank;
+use std::alloc::{AllocError, Global};
 
 /// A directory of a live CephFS, as its dumps show it.
 #[derive(Drop)]
@@ -46,4 +48,17 @@ impl Directory {
     {
         self.is_spread || self.is_kept
     }
+}
+
+/// The heat of each directory.
+pub fn own_heats(alloc: Global, directories: &[Directory]) -> Result<Vec<u64>, AllocError>
+    ensures size { IfOk result (λ heats. length heats.items ≡ length directories.now) }
+    ensures heats { IfOk result (λ heats. (i : ℕ) → i < length directories.now
+        → slice_index heats.items i ≡ heat_at directories.now i) }
+{
+    let mut heats = Vec::with_capacity(alloc, directories.len())?;
+    for directory in directories {
+        heats.push(directory.heat)?;
+    }
+    Ok(heats)
 }

@@ -3,9 +3,9 @@
 //! What is spread, or may not be pinned, is held where it lies, and so is what is below it.
 ghost use Rattle.std.specs.Prelude.{◌≡◌, ◌<◌, ◌+◌, ◌↔◌, ℕ, Some, false, length, min, slice_index, true, IfOk};
 ghost use Rattle.ceph_snapshot.specs.Holding.{AreParentsFirst, IsHeld, held_at};
-ghost use Rattle.ceph_snapshot.specs.Holding.{held_below, hold_below, is_at, most_heat};
+ghost use Rattle.ceph_snapshot.specs.Holding.{held_below, held_below_then, hold_below, is_at, most_heat};
 
-use crate::directory::Directory;
+use crate::directory::{Directory, own_heats};
 use mds_types::Rank;
 use std::alloc::{AllocError, Global};
 
@@ -78,6 +78,33 @@ pub fn holds(alloc: Global, directories: &[Directory]) -> Result<Vec<Held>, Allo
     Ok(found)
 }
 
+/// The heat that is held at each of 64 ranks where directory i has `heats[i]`, in thousandths: `spread` and what is
+/// pinned.
+pub fn held_heat_then(
+    alloc: Global,
+    directories: &[Directory],
+    holds: &[Held],
+    heats: &[u64],
+    spread: &[u64],
+) -> Result<Vec<u64>, AllocError>
+    requires holds { length holds.now ≡ length directories.now }
+    requires heats { length heats.now ≡ length directories.now }
+    requires spread { length spread.now ≡ 64 }
+    ensures size { IfOk result (λ held. length held.items ≡ 64) }
+    ensures heats { IfOk result (λ held. (r : ℕ) → r < 64 → slice_index held.items r
+        ≡ min most_heat (slice_index spread.now r
+        + held_below_then directories.now holds.now (slice_index heats.now) r (length directories.now))) }
+{
+    let mut held = spread.to_vec(alloc)?;
+    for (at, directory) in directories.iter().enumerate() {
+        if let Some(rank) = counted(directory.is_spread, holds[at]) {
+            let number = usize::from(rank.number());
+            held[number] = held[number].saturating_add(heats[at]);
+        }
+    }
+    Ok(held)
+}
+
 /// The heat that is held at each of 64 ranks, in thousandths: `spread` and what is pinned.
 pub fn held_heat(
     alloc: Global,
@@ -91,12 +118,7 @@ pub fn held_heat(
     ensures heats { IfOk result (λ heats. (r : ℕ) → r < 64 → slice_index heats.items r
         ≡ min most_heat (slice_index spread.now r + held_below directories.now holds.now r (length directories.now))) }
 {
-    let mut heats = spread.to_vec(alloc)?;
-    for (at, directory) in directories.iter().enumerate() {
-        if let Some(rank) = counted(directory.is_spread, holds[at]) {
-            let number = usize::from(rank.number());
-            heats[number] = heats[number].saturating_add(directory.heat);
-        }
-    }
-    Ok(heats)
+    let heats = own_heats(alloc, directories)?;
+    let held = held_heat_then(alloc, directories, holds, &heats, spread)?;
+    Ok(held)
 }

@@ -1,6 +1,6 @@
 //! What the planner is given of the directories.
 ghost use Rattle.std.specs.Prelude.{◌≡◌, ◌<◌, ℕ, length, slice_index, IfOk};
-ghost use Rattle.ceph_snapshot.specs.Rows.{AreRowsOf, free_heat};
+ghost use Rattle.ceph_snapshot.specs.Rows.{AreRowsOf, free_heat, planned_heat};
 
 use crate::directory::Directory;
 use crate::held::Held;
@@ -25,6 +25,26 @@ pub fn free_heats(
         heats.push(if is_free { directory.heat } else { 0 })?;
     }
     Ok(heats)
+}
+
+/// The heat of each row where directory i has `heats[i]`, in thousandths: what is held is planned with none, as in
+/// `rows_of`.
+pub fn free_heats_then(alloc: Global, holds: &[Held], heats: &[u64]) -> Result<Vec<u64>, AllocError>
+    requires { length heats.now ≡ length holds.now }
+    ensures size { IfOk result (λ planned. length planned.items ≡ length holds.now) }
+    ensures heats { IfOk result (λ planned. (i : ℕ) → i < length holds.now
+        → slice_index planned.items i ≡ planned_heat holds.now (slice_index heats.now) i) }
+{
+    let mut planned = Vec::with_capacity(alloc, holds.len())?;
+    for (at, hold) in holds.iter().enumerate() {
+        let is_free = matches!(hold, Held::Free);
+        planned.push(if is_free {
+            heats[at].min(HEAT_LIMIT)
+        } else {
+            0
+        })?;
+    }
+    Ok(planned)
 }
 
 /// The directories as rows. What is held counts at the rank that holds it, and is planned with no heat or inodes.

@@ -1,4 +1,4 @@
-use Rattle.std.proofs.Common.{◌≡◌, ◌∙◌, ap, sym, arith, take}
+use Rattle.std.proofs.Common.{◌∙◌, ap, sym, arith, take}
 use Rattle.std.proofs.Math.Seq.{take-length}
 use Rattle.std.proofs.lemmas.Str.Pattern.{split_once_first}
 use Rattle.ceph_dumps.proofs.inode.before_dot.Goals as goal

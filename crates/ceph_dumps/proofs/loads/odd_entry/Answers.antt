@@ -1,4 +1,4 @@
-use Rattle.std.proofs.Common.{◌≡◌, ◌∙◌, ◌<◌, All, List, ℕ, ap, arith, length, subst, sym, take_all, true}
+use Rattle.std.proofs.Common.{◌≡◌, ◌∙◌, ◌<◌, All, ap, arith, length, subst, sym, take_all, true}
 use Rattle.std.proofs.lemmas.List.Elements.{All-more}
 use Rattle.ceph_dumps.specs.declared.loads.FragmentHeat.{FragmentHeat}
 use Rattle.ceph_dumps.specs.Paths.{is_clean_path}

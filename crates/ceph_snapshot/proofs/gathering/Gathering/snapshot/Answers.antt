@@ -6,8 +6,8 @@ use Rattle.ceph_snapshot.specs.declared.directory.Directory.{Directory}
 use Rattle.ceph_snapshot.specs.declared.tree.Node.{Node}
 use Rattle.ceph_snapshot.specs.declared.tree.Sighting.{Sighting}
 use Rattle.ceph_snapshot.specs.Authority.{LieAsClaimed, is_true_of}
-use Rattle.ceph_snapshot.specs.Doubts.{have_left, is_named, is_named_doubtful, numbers_with, with_listed, with_numbers}
-use Rattle.ceph_snapshot.specs.Gathered.{is_unknown_at, listed_at, listed_of, numbers_at, numbers_of, path_pin_at, with_owner, with_unknown}
+use Rattle.ceph_snapshot.specs.Doubts.{have_left, is_named, is_named_doubtful, numbers_with, with_listed}
+use Rattle.ceph_snapshot.specs.Gathered.{is_unknown_at, listed_at, listed_of, numbers_of, path_pin_at, with_owner, with_unknown}
 use Rattle.ceph_snapshot.specs.Sightings.{HaveOwnPaths, LieAt, PathHeat, mean_account, position_of, account_of, account_at, account_by, with_path}
 use Rattle.ceph_snapshot.proofs.Doubtful.{left_read, number_of, number_seen, numbers_read, seen_of}
 use Rattle.ceph_snapshot.proofs.Owners.{listed_placed, owner_from_map, pin_placed, account_placed}

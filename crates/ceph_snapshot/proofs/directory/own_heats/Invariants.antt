@@ -1,6 +1,6 @@
 use Rattle.std.proofs.Common.{◌≡◌, ◌<◌, ℕ, length, slice_index}
 use Rattle.ceph_snapshot.specs.Holding.{heat_at}
-use Rattle.ceph_folding.proofs.amounts.own_heats.Given as goal
+use Rattle.ceph_snapshot.proofs.directory.own_heats.Given as goal
 
 abbrev pub invariant-loop-directory : goal.invariant-loop-directory
 invariant-loop-directory l = record {

@@ -5,7 +5,7 @@ use Rattle.std.proofs.lemmas.Option.{slice_get_read}
 use Rattle.ceph_snapshot.specs.declared.directory.Directory.{Directory}
 use Rattle.ceph_snapshot.specs.Holding.{heat_at}
 use Rattle.ceph_snapshot.proofs.Adding.{values_more}
-use Rattle.ceph_folding.proofs.amounts.own_heats.Goals as goal
+use Rattle.ceph_snapshot.proofs.directory.own_heats.Goals as goal
 
 pub loop-directory-preserved : goal.loop-directory-preserved
 loop-directory-preserved c =
