@@ -1,32 +1,33 @@
 -- The packing with one more part.
-use Rattle.std.proofs.Common.{◌^◌, ◌/◌, ◌≡◌, ◌≢◌, ◌∙◌, ◌+◌, ◌*◌, ◌<◌, ◌≤◌, ◌&&◌, ◌||◌, ◌==◌, ℕ, zero, suc, Bool, true, false, List, length, length-set, get_or, set, slice_index, cond, eqb, nat_lt, inl, inr, ⊎_elim, ap, arith, refl, replicate, subst, sym}
+use Rattle.std.proofs.Common.{◌/◌, ◌≡◌, ◌≢◌, ◌∙◌, ◌+◌, ◌*◌, ◌<◌, ◌≤◌, ◌&&◌, ◌||◌, ◌==◌, ℕ, zero, suc, Bool, true, false, List, length, length-set, get_or, set, slice_index, cond, eqb, nat_lt, inl, inr, ⊎_elim, ap, arith, refl, replicate, subst, sym}
 use Rattle.std.proofs.Math.Nat.{le-add_right, le_of_eq, le_of_lt, mul-le-mul_left}
 use Rattle.std.proofs.lemmas.Bool.{and_parts, both_ways, cases_Bool, cases_eq, cases_lt, eq-eqb, eqb-true, le-ltb, ltb-true, ne_eqb, or_cases, or_from, or_left, or_right}
 use Rattle.std.proofs.lemmas.List.{get_or-replicate, get_or-set_other, get_or-set_same, get_or_default, length-replicate}
-use Rattle.std.proofs.lemmas.List.Elements.{All-get_or}
 use Rattle.mds_types.specs.RankSet.{has_rank}
 use Rattle.mds_types.specs.Sums.{sum_below}
-use Rattle.mds_types.proofs.SumsLemmas.{sum_below-add, sum_below-pick, sum_below-same, sum_below-zero}
-use Rattle.ceph_plan.specs.Balance.{HaveRanks, IsEvened, IsKeptPacking, IsKeptWithin, IsLargestFirst, IsNearMean, IsByHeat, IsSent, allowed, goes_before, greatest_by, is_hotter, load_before, load_by, load_of_parts}
-use Rattle.ceph_plan.specs.Packing.{IsPinnedHeat}
+use Rattle.mds_types.proofs.SumsLemmas.{sum_below-add, sum_below-pick, sum_below-same, sum_below-term, sum_below-zero}
+use Rattle.ceph_plan.specs.declared.hours.Hour.{Hour}
+use Rattle.ceph_plan.specs.Balance.{AreGreatest, CanTake, HaveRanks, IsEvened, IsKeptPacking, IsKeptWithin, IsLargestFirst, IsNearMean, IsByHeat, IsSent, allowed, goes_before, greatest_by, is_hotter, load_by, load_of_parts, load_with, made}
+use Rattle.ceph_plan.specs.Packing.{AreHours, heat_in, load_in, pinned_at, worst}
 use Rattle.ceph_plan.proofs.Bounds.{rank-small, set_usable}
+use Rattle.ceph_plan.proofs.HourSums.{max-least, max-same, pinned-small}
 use Rattle.ceph_plan.proofs.Means.{IsFairLoad, fair-least, load-small, near-mean}
 
 abbrev pub is_done : List Bool → ℕ → Bool
 is_done done q = get_or done q false
 
 -- the parts that are done are packed, and no other is hotter than one of them
-pub record ArePacked (ranks : ℕ) (pinned heats inodes order : List ℕ) (root limit : ℕ) (rank : List ℕ) (done : List Bool) (loads : List ℕ)
+pub record ArePacked (ranks : ℕ) (hours : List Hour) (heats inodes order : List ℕ) (root limit : ℕ) (rank : List ℕ) (done : List Bool) (loads : List ℕ)
     (left : ℕ) : Type 0 where
   pub ranks_are : HaveRanks ranks heats root rank
   pub size : length done ≡ length heats
   pub root_done : is_done done root ≡ true
-  pub loads_size : length loads ≡ 64
-  pub loads_are : (r : ℕ) → r < 64 → slice_index loads r ≡ load_by pinned heats rank (is_done done) r
+  pub loads_size : length loads ≡ length hours * 64
+  pub loads_are : (h r : ℕ) → h < length hours → r < 64 → slice_index loads (h * 64 + r) ≡ load_by hours heats rank (is_done done) h r
   pub ahead : (q p : ℕ) → q < length heats → p < length heats → q ≢ root → is_done done q ≡ true → is_done done p ≡ false → is_hotter heats q p ≡ true
   pub sent : (p : ℕ) → p < length heats → p ≢ root → is_done done p ≡ true
-      → IsSent ranks (load_before pinned heats root rank p) inodes p (slice_index heats p) limit (slice_index rank p)
-  pub fair : (r : ℕ) → has_rank ranks r ≡ true → IsFairLoad ranks pinned heats root limit r (slice_index loads r)
+      → IsSent ranks (load_with hours heats root rank p) inodes p limit (slice_index rank p)
+  pub fair : (r : ℕ) → has_rank ranks r ≡ true → IsFairLoad ranks hours heats root limit r (worst hours (λ h. slice_index loads (h * 64 + r)))
   pub ordered : IsByHeat heats order
   pub within : left ≤ length heats
   pub rest : (i : ℕ) → left ≤ i → i < length heats → is_done done (slice_index order i) ≡ true
@@ -56,17 +57,17 @@ hotter-self heats k =
     (and-no (slice_index heats k == slice_index heats k) (nat_lt k k) (le-ltb k k (omega arith)))
 
 -- loads are alike where the same parts are at the rank
-load-same : (pinned heats rank others : List ℕ) (some those : ℕ → Bool) (r : ℕ)
+load-same : (hours : List Hour) (heats rank others : List ℕ) (some those : ℕ → Bool) (h r : ℕ)
     → ((q : ℕ) → q < length heats → (some q && (get_or rank q 0 == r)) ≡ (those q && (get_or others q 0 == r)))
-    → load_by pinned heats rank some r ≡ load_by pinned heats others those r
-load-same pinned heats rank others some those r same =
-    ap (λ (x : ℕ). slice_index pinned r + x)
-    (sum_below-same (length heats) (λ q. cond (some q && (get_or rank q 0 == r)) (slice_index heats q) 0) (λ q. cond (those q && (get_or others q 0 == r)) (slice_index heats q) 0)
-    (λ q l. ap (λ (b : Bool). cond b (slice_index heats q) 0) (same q l)))
+    → load_by hours heats rank some h r ≡ load_by hours heats others those h r
+load-same hours heats rank others some those h r same =
+    ap (λ (x : ℕ). pinned_at hours h r + x)
+    (sum_below-same (length heats) (λ q. cond (some q && (get_or rank q 0 == r)) (heat_in hours h q) 0) (λ q. cond (those q && (get_or others q 0 == r)) (heat_in hours h q) 0)
+    (λ q l. ap (λ (b : Bool). cond b (heat_in hours h q) 0) (same q l)))
 
-sent-same : (ranks : ℕ) (load other : ℕ → ℕ) (inodes : List ℕ) (p heat limit to : ℕ) → ((r : ℕ) → r < 64 → load r ≡ other r) → to < 64
-    → IsSent ranks load inodes p heat limit to → IsSent ranks other inodes p heat limit to
-sent-same ranks load other inodes p heat limit to same small sent = record {
+sent-same : (ranks : ℕ) (load other : ℕ → ℕ) (inodes : List ℕ) (p limit to : ℕ) → ((r : ℕ) → r < 64 → load r ≡ other r) → to < 64
+    → IsSent ranks load inodes p limit to → IsSent ranks other inodes p limit to
+sent-same ranks load other inodes p limit to same small sent = record {
   home = sent.home;
   is = sent.is;
   goes = elim sent.goes [
@@ -79,15 +80,19 @@ sent-same ranks load other inodes p heat limit to same small sent = record {
 }
 
 -- where a part goes the load is fair
-fair-there : (ranks : ℕ) (pinned heats inodes : List ℕ) (root limit : ℕ) (rank : List ℕ) (done : List Bool) (loads : List ℕ) (k to : ℕ) → k < length heats
-    → ((p : ℕ) → p < length heats → has_rank ranks (slice_index rank p) ≡ true)
-    → ((r : ℕ) → r < 64 → slice_index loads r ≡ load_by pinned heats rank (is_done done) r)
-    → IsSent ranks (slice_index loads) inodes k (slice_index heats k) limit to
-    → IsFairLoad ranks pinned heats root limit to (slice_index loads to + slice_index heats k)
-fair-there ranks pinned heats inodes root limit rank done loads k to inside usable are sent = elim sent.goes [
-  | inl kept ↦ inr (inr (inl (subst (λ (t : ℕ). slice_index loads t + slice_index heats k ≤ limit) (sym kept.2) kept.1)))
-  | inr moved ↦ inr (inr (inr (fair-least ranks pinned heats rank (is_done done) (slice_index loads) k to inside usable are moved.1)))
+fair-there : (ranks : ℕ) (hours : List Hour) (heats inodes : List ℕ) (root limit : ℕ) (rank : List ℕ) (done : List Bool) (loads : List ℕ) (k to : ℕ) → k < length heats
+    → AreGreatest hours heats → ((p : ℕ) → p < length heats → has_rank ranks (slice_index rank p) ≡ true)
+    → ((h r : ℕ) → h < length hours → r < 64 → slice_index loads (h * 64 + r) ≡ load_by hours heats rank (is_done done) h r)
+    → IsSent ranks (made hours loads k) inodes k limit to
+    → IsFairLoad ranks hours heats root limit to (made hours loads k to)
+fair-there ranks hours heats inodes root limit rank done loads k to inside greatest usable are sent = elim sent.goes [
+  | inl kept ↦ inr (inr (inl (subst (λ (t : ℕ). made hours loads k t ≤ limit) (sym kept.2) kept.1)))
+  | inr moved ↦ inr (inr (inr (fair-least ranks hours heats rank (is_done done) (made hours loads k) k to inside greatest usable (λ r small. with-done r small) moved.1)))
 ]
+  where
+    with-done : (r : ℕ) → r < 64 → made hours loads k r ≡ worst hours (λ h. load_by hours heats rank (is_done done) h r + heat_in hours h k)
+    with-done r small = max-same (length hours) (λ h. slice_index loads (h * 64 + r) + heat_in hours h k) (λ h. load_by hours heats rank (is_done done) h r + heat_in hours h k)
+        (λ h l. ap (λ (x : ℕ). x + heat_in hours h k) (are h r l small))
 
 add-zero : (x : ℕ) → x + 0 ≡ x
 add-zero x = omega arith
@@ -101,12 +106,12 @@ sum-set n k x f g inside here others =
     (cases_eq q k))
     ∙ (sum_below-add n g (λ q. cond (eqb k q) x 0) ∙ ap (λ (y : ℕ). sum_below n g + y) (sum_below-pick n k (λ q. x) inside))
 
-load-set : (pinned heats rank : List ℕ) (done : List Bool) (k to r : ℕ) → k < length heats → length rank ≡ length heats → length done ≡ length heats → is_done done k ≡ false
-    → load_by pinned heats (set rank k to) (is_done (set done k true)) r ≡ load_by pinned heats rank (is_done done) r + cond (eqb to r) (slice_index heats k) 0
-load-set pinned heats rank done k to r inside ranks size new =
-    let x : ℕ = cond (eqb to r) (slice_index heats k) 0 in
-    let f : ℕ → ℕ = λ q. cond (get_or (set done k true) q false && (get_or (set rank k to) q 0 == r)) (slice_index heats q) 0 in
-    let g : ℕ → ℕ = λ q. cond (get_or done q false && (get_or rank q 0 == r)) (slice_index heats q) 0 in
+load-set : (hours : List Hour) (heats rank : List ℕ) (done : List Bool) (k to h r : ℕ) → k < length heats → length rank ≡ length heats → length done ≡ length heats → is_done done k ≡ false
+    → load_by hours heats (set rank k to) (is_done (set done k true)) h r ≡ load_by hours heats rank (is_done done) h r + cond (eqb to r) (heat_in hours h k) 0
+load-set hours heats rank done k to h r inside ranks size new =
+    let x : ℕ = cond (eqb to r) (heat_in hours h k) 0 in
+    let f : ℕ → ℕ = λ q. cond (get_or (set done k true) q false && (get_or (set rank k to) q 0 == r)) (heat_in hours h q) 0 in
+    let g : ℕ → ℕ = λ q. cond (get_or done q false && (get_or rank q 0 == r)) (heat_in hours h q) 0 in
     let here : f k ≡ g k + x = rw (get_or-set_same done k true false (omega (arith, inside, size)), get_or-set_same rank k to 0 (omega (arith, inside, ranks)), new) (omega arith) in
     let others : (q : ℕ) → q < length heats → q ≢ k → f q ≡ g q = λ q l other.
     rw (get_or-set_other done k q true false other, get_or-set_other rank k q to 0 other) refl in
@@ -166,12 +171,12 @@ all-done heats order done ordered rest q l =
     let place = place_of order q (length heats) (ordered.each q l) in
     ap (is_done done) (sym place.2) ∙ rest place.0 (omega arith) place.1
 
-pub packed-more : (ranks : ℕ) (pinned heats inodes order : List ℕ) (root limit : ℕ) (rank : List ℕ) (done : List Bool) (loads : List ℕ) (left next k to : ℕ) (more : List ℕ)
-    → ArePacked ranks pinned heats inodes order root limit rank done loads left → next < length heats → k ≡ slice_index order next → is_done done k ≡ false
-    → has_rank ranks to ≡ true → IsSent ranks (slice_index loads) inodes k (slice_index heats k) limit to
-    → length more ≡ 64 → ((r : ℕ) → r < 64 → slice_index more r ≡ slice_index loads r + cond (eqb to r) (slice_index heats k) 0) → left ≡ next + 1
-    → ArePacked ranks pinned heats inodes order root limit (set rank k to) (set done k true) more next
-packed-more ranks pinned heats inodes order root limit rank done loads left next k to more before there is new has sent size added less =
+pub packed-more : (ranks : ℕ) (hours : List Hour) (heats inodes order : List ℕ) (root limit : ℕ) (rank : List ℕ) (done : List Bool) (loads : List ℕ) (left next k to : ℕ) (more : List ℕ)
+    → ArePacked ranks hours heats inodes order root limit rank done loads left → next < length heats → k ≡ slice_index order next → is_done done k ≡ false
+    → has_rank ranks to ≡ true → AreGreatest hours heats → IsSent ranks (made hours loads k) inodes k limit to
+    → length more ≡ length loads → ((h r : ℕ) → h < length hours → r < 64 → slice_index more (h * 64 + r) ≡ slice_index loads (h * 64 + r) + cond (eqb to r) (heat_in hours h k) 0) → left ≡ next + 1
+    → ArePacked ranks hours heats inodes order root limit (set rank k to) (set done k true) more next
+packed-more ranks hours heats inodes order root limit rank done loads left next k to more before there is new has greatest sent size added less =
     let n : ℕ = length heats in
     let inside : k < n = omega (arith, is, before.ordered.inside next there) in
     let first : (q : ℕ) → q < n → q ≢ k → is_done done q ≡ false → is_hotter heats k q ≡ true =
@@ -180,19 +185,25 @@ packed-more ranks pinned heats inodes order root limit rank done loads left next
     let later : k ≢ root = λ same. both_ways (is_done done k) new (ap (is_done done) same ∙ before.root_done) in
     let now : get_or (set rank k to) k 0 ≡ to = get_or-set_same rank k to 0 (omega (arith, inside, ranks_size)) in
     let now_done : is_done (set done k true) k ≡ true = get_or-set_same done k true false (omega (arith, inside, before.size)) in
-    let ahead : (r : ℕ) → r < 64 → slice_index loads r ≡ load_before pinned heats root (set rank k to) k r = λ r small.
-    before.loads_are r small ∙ load-same pinned heats rank (set rank k to) (is_done done) (λ q. goes_before heats root q k) r (λ q l.
+    let ahead : (r : ℕ) → r < 64 → made hours loads k r ≡ load_with hours heats root (set rank k to) k r = λ r small.
+    max-same (length hours) (λ h. slice_index loads (h * 64 + r) + heat_in hours h k)
+    (λ h. load_by hours heats (set rank k to) (λ q. goes_before heats root q k) h r + heat_in hours h k)
+    (λ h lh. ap (λ (x : ℕ). x + heat_in hours h k)
+    (before.loads_are h r lh small ∙ load-same hours heats rank (set rank k to) (is_done done) (λ q. goes_before heats root q k) h r (λ q l.
     ⊎_elim (λ (same : q ≡ k). subst (λ (j : ℕ). (is_done done j && (get_or rank j 0 == r)) ≡ (goes_before heats root j k && (get_or (set rank k to) j 0 == r))) (sym same)
     (rw (new, not-before heats root k k later (hotter-self heats k)) refl))
     (λ (other : q ≢ k). rw (get_or-set_other rank k q to 0 other, before-next heats root k q done before.root_done l inside other new before.ahead first) refl)
-    (cases_eq q k)) in
+    (cases_eq q k)))) in
     let same_before : (p : ℕ) → p < n → p ≢ root → is_done done p ≡ true → (r : ℕ) → r < 64
-    → load_before pinned heats root rank p r ≡ load_before pinned heats root (set rank k to) p r = λ p lp below was r small.
-    load-same pinned heats rank (set rank k to) (λ q. goes_before heats root q p) (λ q. goes_before heats root q p) r (λ q l.
+    → load_with hours heats root rank p r ≡ load_with hours heats root (set rank k to) p r = λ p lp below was r small.
+    max-same (length hours) (λ h. load_by hours heats rank (λ q. goes_before heats root q p) h r + heat_in hours h p)
+    (λ h. load_by hours heats (set rank k to) (λ q. goes_before heats root q p) h r + heat_in hours h p)
+    (λ h lh. ap (λ (x : ℕ). x + heat_in hours h p)
+    (load-same hours heats rank (set rank k to) (λ q. goes_before heats root q p) (λ q. goes_before heats root q p) h r (λ q l.
     ⊎_elim (λ (same : q ≡ k). subst (λ (j : ℕ). (goes_before heats root j p && (get_or rank j 0 == r)) ≡ (goes_before heats root j p && (get_or (set rank k to) j 0 == r))) (sym same)
     (rw (not-before heats root k p later (hotter-not heats p k (before.ahead p k lp inside below was new))) refl))
     (λ (other : q ≢ k). rw (get_or-set_other rank k q to 0 other) refl)
-    (cases_eq q k)) in
+    (cases_eq q k)))) in
     record {
       ranks_are = record {
         size = length-set rank k to ∙ ranks_size;
@@ -201,8 +212,8 @@ packed-more ranks pinned heats inodes order root limit rank done loads left next
       };
       size = length-set done k true ∙ before.size;
       root_done = get_or-set_other done k root true false (λ same. later (sym same)) ∙ before.root_done;
-      loads_size = size;
-      loads_are = λ r small. omega (arith, added r small, before.loads_are r small, load-set pinned heats rank done k to r inside ranks_size before.size new);
+      loads_size = size ∙ before.loads_size;
+      loads_are = λ h r lh small. omega (arith, added h r lh small, before.loads_are h r lh small, load-set hours heats rank done k to h r inside ranks_size before.size new);
       ahead = λ q p lq lp below is not.
           let other : p ≢ k = λ same. both_ways (is_done (set done k true) p) not (ap (is_done (set done k true)) same ∙ now_done) in
           let not_before : is_done done p ≡ false = sym (get_or-set_other done k p true false other) ∙ not in
@@ -211,27 +222,29 @@ packed-more ranks pinned heats inodes order root limit rank done loads left next
           (cases_eq q k);
       sent = λ p l below is.
           ⊎_elim (λ (same : p ≡ k).
-          subst (λ (j : ℕ). IsSent ranks (load_before pinned heats root (set rank k to) j) inodes j (slice_index heats j) limit (get_or (set rank k to) j 0)) (sym same)
-          (subst (λ (t : ℕ). IsSent ranks (load_before pinned heats root (set rank k to) k) inodes k (slice_index heats k) limit t) (sym now)
-          (sent-same ranks (slice_index loads) (load_before pinned heats root (set rank k to) k) inodes k (slice_index heats k) limit to ahead (rank-small ranks to has) sent)))
+          subst (λ (j : ℕ). IsSent ranks (load_with hours heats root (set rank k to) j) inodes j limit (get_or (set rank k to) j 0)) (sym same)
+          (subst (λ (t : ℕ). IsSent ranks (load_with hours heats root (set rank k to) k) inodes k limit t) (sym now)
+          (sent-same ranks (made hours loads k) (load_with hours heats root (set rank k to) k) inodes k limit to ahead (rank-small ranks to has) sent)))
           (λ (old : p ≢ k).
           let was : is_done done p ≡ true = sym (get_or-set_other done k p true false old) ∙ is in
-          subst (λ (t : ℕ). IsSent ranks (load_before pinned heats root (set rank k to) p) inodes p (slice_index heats p) limit t) (sym (get_or-set_other rank k p to 0 old))
-          (sent-same ranks (load_before pinned heats root rank p) (load_before pinned heats root (set rank k to) p) inodes p (slice_index heats p) limit (get_or rank p 0)
+          subst (λ (t : ℕ). IsSent ranks (load_with hours heats root (set rank k to) p) inodes p limit t) (sym (get_or-set_other rank k p to 0 old))
+          (sent-same ranks (load_with hours heats root rank p) (load_with hours heats root (set rank k to) p) inodes p limit (get_or rank p 0)
           (same_before p l below was) (rank-small ranks (get_or rank p 0) (before.ranks_are.usable p l)) (before.sent p l below was)))
           (cases_eq p k);
       fair = λ r is.
           let small : r < 64 = rank-small ranks r is in
           ⊎_elim (λ (same : r ≡ to).
-          let sum : slice_index more to ≡ slice_index loads to + slice_index heats k =
-          added to (rank-small ranks to has) ∙ ap (λ (b : Bool). slice_index loads to + cond b (slice_index heats k) 0) (eq-eqb to to refl) in
-          subst (λ (t : ℕ). IsFairLoad ranks pinned heats root limit t (slice_index more t)) (sym same)
-          (subst (λ (x : ℕ). IsFairLoad ranks pinned heats root limit to x) (sym sum)
-          (fair-there ranks pinned heats inodes root limit rank done loads k to inside before.ranks_are.usable before.loads_are sent)))
+          let sum : worst hours (λ h. slice_index more (h * 64 + to)) ≡ made hours loads k to =
+          max-same (length hours) (λ h. slice_index more (h * 64 + to)) (λ h. slice_index loads (h * 64 + to) + heat_in hours h k) (λ h lh.
+          added h to lh (rank-small ranks to has) ∙ ap (λ (b : Bool). slice_index loads (h * 64 + to) + cond b (heat_in hours h k) 0) (eq-eqb to to refl)) in
+          subst (λ (t : ℕ). IsFairLoad ranks hours heats root limit t (worst hours (λ h. slice_index more (h * 64 + t)))) (sym same)
+          (subst (λ (x : ℕ). IsFairLoad ranks hours heats root limit to x) (sym sum)
+          (fair-there ranks hours heats inodes root limit rank done loads k to inside greatest before.ranks_are.usable before.loads_are sent)))
           (λ (other : r ≢ to).
-          let sum : slice_index more r ≡ slice_index loads r =
-          added r small ∙ (ap (λ (b : Bool). slice_index loads r + cond b (slice_index heats k) 0) (ne_eqb to r (λ same. other (sym same))) ∙ add-zero (slice_index loads r)) in
-          subst (λ (x : ℕ). IsFairLoad ranks pinned heats root limit r x) (sym sum) (before.fair r is))
+          let sum : worst hours (λ h. slice_index more (h * 64 + r)) ≡ worst hours (λ h. slice_index loads (h * 64 + r)) =
+          max-same (length hours) (λ h. slice_index more (h * 64 + r)) (λ h. slice_index loads (h * 64 + r)) (λ h lh.
+          added h r lh small ∙ (ap (λ (b : Bool). slice_index loads (h * 64 + r) + cond b (heat_in hours h k) 0) (ne_eqb to r (λ same. other (sym same))) ∙ add-zero (slice_index loads (h * 64 + r)))) in
+          subst (λ (x : ℕ). IsFairLoad ranks hours heats root limit r x) (sym sum) (before.fair r is))
           (cases_eq r to);
       ordered = before.ordered;
       within = omega (arith, before.within, less);
@@ -244,10 +257,10 @@ packed-more ranks pinned heats inodes order root limit rank done loads left next
     }
 
 -- the part that is next is done already
-pub packed-none : (ranks : ℕ) (pinned heats inodes order : List ℕ) (root limit : ℕ) (rank : List ℕ) (done : List Bool) (loads : List ℕ) (left next : ℕ)
-    → ArePacked ranks pinned heats inodes order root limit rank done loads left → is_done done (slice_index order next) ≡ true → left ≡ next + 1
-    → ArePacked ranks pinned heats inodes order root limit rank done loads next
-packed-none ranks pinned heats inodes order root limit rank done loads left next before is less = record {
+pub packed-none : (ranks : ℕ) (hours : List Hour) (heats inodes order : List ℕ) (root limit : ℕ) (rank : List ℕ) (done : List Bool) (loads : List ℕ) (left next : ℕ)
+    → ArePacked ranks hours heats inodes order root limit rank done loads left → is_done done (slice_index order next) ≡ true → left ≡ next + 1
+    → ArePacked ranks hours heats inodes order root limit rank done loads next
+packed-none ranks hours heats inodes order root limit rank done loads left next before is less = record {
   ranks_are = before.ranks_are;
   size = before.size;
   root_done = before.root_done;
@@ -265,11 +278,11 @@ packed-none ranks pinned heats inodes order root limit rank done loads left next
 }
 
 -- the root's part is done
-pub packed-first : (ranks : ℕ) (pinned heats inodes order : List ℕ) (root limit : ℕ) (rank : List ℕ) (done : List Bool) (loads : List ℕ) (n : ℕ)
-    → IsByHeat heats order → n ≡ length heats → root < n → has_rank ranks 0 ≡ true → rank ≡ replicate n 0 → done ≡ replicate n false → length loads ≡ 64
-    → ((r : ℕ) → r < 64 → slice_index loads r ≡ slice_index pinned r + cond (eqb 0 r) (slice_index heats root) 0)
-    → ArePacked ranks pinned heats inodes order root limit rank (set done root true) loads n
-packed-first ranks pinned heats inodes order root limit rank done loads n ordered size_is inside has rank_is done_is size added =
+pub packed-first : (ranks : ℕ) (hours : List Hour) (heats inodes order : List ℕ) (root limit : ℕ) (rank : List ℕ) (done : List Bool) (loads : List ℕ) (n : ℕ)
+    → IsByHeat heats order → n ≡ length heats → root < n → has_rank ranks 0 ≡ true → rank ≡ replicate n 0 → done ≡ replicate n false → length loads ≡ length hours * 64
+    → ((h r : ℕ) → h < length hours → r < 64 → slice_index loads (h * 64 + r) ≡ pinned_at hours h r + cond (eqb 0 r) (heat_in hours h root) 0)
+    → ArePacked ranks hours heats inodes order root limit rank (set done root true) loads n
+packed-first ranks hours heats inodes order root limit rank done loads n ordered size_is inside has rank_is done_is size added =
     let marks : length done ≡ n = ap length done_is ∙ length-replicate n false in
     let zeros : (p : ℕ) → p < n → get_or rank p 0 ≡ 0 = λ p l. ap (λ (xs : List ℕ). get_or xs p 0) rank_is ∙ get_or-replicate n p 0 0 l in
     let falses : (p : ℕ) → p < n → get_or done p false ≡ false = λ p l. ap (λ (xs : List Bool). get_or xs p false) done_is ∙ get_or-replicate n p false false l in
@@ -285,23 +298,23 @@ packed-first ranks pinned heats inodes order root limit rank done loads n ordere
       size = length-set done root true ∙ (marks ∙ size_is);
       root_done = there;
       loads_size = size;
-      loads_are = λ r small.
-          let f : ℕ → ℕ = λ q. cond (get_or (set done root true) q false && (get_or rank q 0 == r)) (slice_index heats q) 0 in
-          let here : f root ≡ cond (eqb 0 r) (slice_index heats root) 0 = rw (there, zeros root inside) refl in
-          let sums : sum_below (length heats) f ≡ sum_below (length heats) (λ q. 0) + cond (eqb 0 r) (slice_index heats root) 0 =
-          sum-set (length heats) root (cond (eqb 0 r) (slice_index heats root) 0) f (λ q. 0) (omega (arith, inside, size_is)) (omega (arith, here))
+      loads_are = λ h r lh small.
+          let f : ℕ → ℕ = λ q. cond (get_or (set done root true) q false && (get_or rank q 0 == r)) (heat_in hours h q) 0 in
+          let here : f root ≡ cond (eqb 0 r) (heat_in hours h root) 0 = rw (there, zeros root inside) refl in
+          let sums : sum_below (length heats) f ≡ sum_below (length heats) (λ q. 0) + cond (eqb 0 r) (heat_in hours h root) 0 =
+          sum-set (length heats) root (cond (eqb 0 r) (heat_in hours h root) 0) f (λ q. 0) (omega (arith, inside, size_is)) (omega (arith, here))
           (λ q l other. rw (only q l other) refl) in
-          omega (arith, added r small, sums, sum_below-zero (length heats) (λ q. 0) (λ q l. refl));
+          omega (arith, added h r lh small, sums, sum_below-zero (length heats) (λ q. 0) (λ q l. refl));
       ahead = λ q p lq lp later is not. absurd (both_ways (is_done (set done root true) q) (only q lq later) is);
       sent = λ p l later is. absurd (both_ways (is_done (set done root true) p) (only p l later) is);
       fair = λ r is.
-          ⊎_elim (λ (same : r ≡ 0). inr (inl (subst (λ (t : ℕ). slice_index loads t ≤ slice_index pinned 0 + slice_index heats root) (sym same)
-          (omega (arith, added 0 (omega arith))))))
-          (λ (other : r ≢ 0). inl (omega (
+          ⊎_elim (λ (same : r ≡ 0). inr (inl (subst (λ (t : ℕ). worst hours (λ h. slice_index loads (h * 64 + t)) ≤ worst hours (λ h. pinned_at hours h 0 + heat_in hours h root)) (sym same)
+          (max-least (length hours) (λ h. slice_index loads (h * 64 + 0)) (λ h. pinned_at hours h 0 + heat_in hours h root) (λ h lh. omega (arith, added h 0 lh (omega arith)))))))
+          (λ (other : r ≢ 0). inl (max-least (length hours) (λ h. slice_index loads (h * 64 + r)) (λ h. pinned_at hours h r) (λ h lh. omega (
             arith,
-            added r (rank-small ranks r is),
-            ap (λ (b : Bool). cond b (slice_index heats root) 0) (ne_eqb 0 r (λ same. other (sym same))),
-          )))
+            added h r lh (rank-small ranks r is),
+            ap (λ (b : Bool). cond b (heat_in hours h root) 0) (ne_eqb 0 r (λ same. other (sym same))),
+          ))))
           (cases_eq r 0);
       ordered = ordered;
       within = omega (arith, size_is);
@@ -309,80 +322,83 @@ packed-first ranks pinned heats inodes order root limit rank done loads n ordere
     }
 
 -- all parts are packed
-pub packed-all : (ranks : ℕ) (pinned heats inodes order : List ℕ) (root limit : ℕ) (rank : List ℕ) (done : List Bool) (loads : List ℕ)
-    → ArePacked ranks pinned heats inodes order root limit rank done loads 0 → IsKeptWithin ranks pinned heats inodes root limit rank
-packed-all ranks pinned heats inodes order root limit rank done loads packed = record {
+pub packed-all : (ranks : ℕ) (hours : List Hour) (heats inodes order : List ℕ) (root limit : ℕ) (rank : List ℕ) (done : List Bool) (loads : List ℕ)
+    → ArePacked ranks hours heats inodes order root limit rank done loads 0 → IsKeptWithin ranks hours heats inodes root limit rank
+packed-all ranks hours heats inodes order root limit rank done loads packed = record {
   ranks_are = packed.ranks_are;
   sent = λ p l later. packed.sent p l later (all-done heats order done packed.ordered packed.rest p l);
 }
 
-pub loads-all : (ranks : ℕ) (pinned heats inodes order : List ℕ) (root limit : ℕ) (rank : List ℕ) (done : List Bool) (loads : List ℕ)
-    → ArePacked ranks pinned heats inodes order root limit rank done loads 0 → (r : ℕ) → r < 64 → slice_index loads r ≡ load_of_parts pinned heats rank r
-loads-all ranks pinned heats inodes order root limit rank done loads packed r small =
-    packed.loads_are r small ∙ load-same pinned heats rank rank (is_done done) (λ q. true) r (λ q l.
-    ap (λ (b : Bool). b && (get_or rank q 0 == r)) (all-done heats order done packed.ordered packed.rest q l))
+pub loads-all : (ranks : ℕ) (hours : List Hour) (heats inodes order : List ℕ) (root limit : ℕ) (rank : List ℕ) (done : List Bool) (loads : List ℕ)
+    → ArePacked ranks hours heats inodes order root limit rank done loads 0 → (r : ℕ) → r < 64 → worst hours (λ h. slice_index loads (h * 64 + r)) ≡ load_of_parts hours heats rank r
+loads-all ranks hours heats inodes order root limit rank done loads packed r small =
+    max-same (length hours) (λ h. slice_index loads (h * 64 + r)) (λ h. load_in hours (length heats) (slice_index rank) h r) (λ h lh.
+    packed.loads_are h r lh small ∙ load-same hours heats rank rank (is_done done) (λ q. true) h r (λ q l.
+    ap (λ (b : Bool). b && (get_or rank q 0 == r)) (all-done heats order done packed.ordered packed.rest q l)))
 
--- where no load is within the limit, no rank was loaded less
-pub largest-first : (ranks : ℕ) (pinned heats inodes : List ℕ) (root : ℕ) (rank : List ℕ) → IsKeptWithin ranks pinned heats inodes root 0 rank
-    → IsLargestFirst ranks pinned heats root rank
-largest-first ranks pinned heats inodes root rank kept = record {
+-- where no load is within the limit, none was less elsewhere
+pub largest-first : (ranks : ℕ) (hours : List Hour) (heats inodes : List ℕ) (root : ℕ) (rank : List ℕ) → IsKeptWithin ranks hours heats inodes root 0 rank
+    → IsLargestFirst ranks hours heats root rank
+largest-first ranks hours heats inodes root rank kept = record {
   ranks_are = kept.ranks_are;
   least = λ p r l later has.
       let sent = kept.sent p l later in
       elim sent.goes [
-        | inl stays ↦ subst (λ (t : ℕ). load_before pinned heats root rank p t ≤ load_before pinned heats root rank p r) (sym stays.2) (omega (arith, stays.1))
+        | inl stays ↦ subst (λ (t : ℕ). load_with hours heats root rank p t ≤ load_with hours heats root rank p r) (sym stays.2) (omega (arith, stays.1))
         | inr moved ↦ moved.1 r has
       ];
 }
 
 -- the greatest load where all parts are packed and none is kept at home
-pub fair-all : (ranks : ℕ) (pinned heats inodes order : List ℕ) (root : ℕ) (rank : List ℕ) (done : List Bool) (loads : List ℕ)
-    → ArePacked ranks pinned heats inodes order root 0 rank done loads 0 → IsNearMean ranks pinned heats root (greatest_by ranks pinned heats rank)
-fair-all ranks pinned heats inodes order root rank done loads packed =
-    near-mean ranks pinned heats rank root (λ r has.
-    subst (λ (x : ℕ). IsFairLoad ranks pinned heats root 0 r x) (loads-all ranks pinned heats inodes order root 0 rank done loads packed r (rank-small ranks r has)) (packed.fair r has))
+pub fair-all : (ranks : ℕ) (hours : List Hour) (heats inodes order : List ℕ) (root : ℕ) (rank : List ℕ) (done : List Bool) (loads : List ℕ)
+    → ArePacked ranks hours heats inodes order root 0 rank done loads 0 → IsNearMean ranks hours heats root (greatest_by ranks hours heats rank)
+fair-all ranks hours heats inodes order root rank done loads packed =
+    near-mean ranks hours heats rank root (λ r has.
+    subst (λ (x : ℕ). IsFairLoad ranks hours heats root 0 r x) (loads-all ranks hours heats inodes order root 0 rank done loads packed r (rank-small ranks r has)) (packed.fair r has))
 
 -- what is read of a list, whatever is read past its end
 pub read-value : (xs ys : List ℕ) (i x : ℕ) → xs ≡ ys → i < length ys → x ≡ get_or xs i x → x ≡ get_or ys i 0
 read-value xs ys i x same inside is = is ∙ (ap (λ (zs : List ℕ). get_or zs i x) same ∙ get_or_default ys i x 0 inside)
 
--- more is loaded on one rank
-pub added-set : (loads : List ℕ) (to h v r : ℕ) → to < length loads → v ≡ get_or loads to 0 + h → get_or (set loads to v) r 0 ≡ get_or loads r 0 + cond (eqb to r) h 0
-added-set loads to h v r inside is =
-    ⊎_elim (λ (same : r ≡ to). subst (λ (j : ℕ). get_or (set loads to v) j 0 ≡ get_or loads j 0 + cond (eqb to j) h 0) (sym same)
-    (rw (eq-eqb to to refl, get_or-set_same loads to v 0 inside) is))
-    (λ (other : r ≢ to). rw (get_or-set_other loads to r v 0 other, ne_eqb to r (λ same. other (sym same))) (omega arith))
-    (cases_eq r to)
-
-pub load-bound : (ranks : ℕ) (pinned heats inodes order : List ℕ) (root limit : ℕ) (rank : List ℕ) (done : List Bool) (loads : List ℕ) (left r : ℕ)
-    → ArePacked ranks pinned heats inodes order root limit rank done loads left → IsPinnedHeat pinned
-    → sum_below (length heats) (slice_index heats) ≤ 2 ^ 56 → r < 64 → slice_index loads r ≤ 2 ^ 57 + 2 ^ 56
-load-bound ranks pinned heats inodes order root limit rank done loads left r packed held total inside =
-    let most : slice_index pinned r ≤ 2 ^ 57 = All-get_or (λ (n : ℕ). n ≤ 2 ^ 57) pinned r 0 (omega (arith, held.size, inside)) held.small in
-    omega (arith, packed.loads_are r inside, load-small ranks pinned heats rank (is_done done) r, most, total)
+-- and one more part can be added to each load
+pub load-room : (ranks : ℕ) (hours : List Hour) (heats inodes order : List ℕ) (root limit : ℕ) (rank : List ℕ) (done : List Bool) (loads : List ℕ) (left p : ℕ)
+    → ArePacked ranks hours heats inodes order root limit rank done loads left → AreHours hours (length heats) → p < length heats → CanTake hours (length heats) loads p
+load-room ranks hours heats inodes order root limit rank done loads left p packed are inside = record {
+  size = packed.loads_size;
+  inside = inside;
+  sizes = are.size;
+  room = λ h r l small. omega (
+    arith,
+    packed.loads_are h r l small,
+    load-small hours heats rank (is_done done) h r,
+    pinned-small hours h r are.pinned l small,
+    are.total h l,
+    sum_below-term (length heats) p (heat_in hours h) inside,
+  );
+}
 
 -- whichever packing is taken, each part has a rank
-pub ranks-kept : (ranks : ℕ) (pinned heats inodes : List ℕ) (root keep : ℕ) (even rank : List ℕ) → HaveRanks ranks heats root even → IsKeptPacking ranks pinned heats inodes root keep even rank
+pub ranks-kept : (ranks : ℕ) (hours : List Hour) (heats inodes : List ℕ) (root keep : ℕ) (even rank : List ℕ) → HaveRanks ranks heats root even → IsKeptPacking ranks hours heats inodes root keep even rank
     → HaveRanks ranks heats root rank
-ranks-kept ranks pinned heats inodes root keep even rank have chosen = elim chosen.taken [
+ranks-kept ranks hours heats inodes root keep even rank have chosen = elim chosen.taken [
   | inl near ↦ subst (HaveRanks ranks heats root) (sym near.1) chosen.mended.ranks_are
   | inr plain ↦ subst (HaveRanks ranks heats root) (sym plain.1) have
 ]
 
 -- and the greatest load is allowed
-pub within-kept : (ranks : ℕ) (pinned heats inodes : List ℕ) (root keep : ℕ) (even rank : List ℕ) → IsKeptPacking ranks pinned heats inodes root keep even rank
-    → greatest_by ranks pinned heats rank ≤ allowed keep (greatest_by ranks pinned heats even)
-within-kept ranks pinned heats inodes root keep even rank chosen = elim chosen.taken [
-  | inl near ↦ subst (λ (xs : List ℕ). greatest_by ranks pinned heats xs ≤ allowed keep (greatest_by ranks pinned heats even)) (sym near.1) near.0
-  | inr plain ↦ subst (λ (xs : List ℕ). greatest_by ranks pinned heats xs ≤ allowed keep (greatest_by ranks pinned heats even)) (sym plain.1)
-      (le-add_right (greatest_by ranks pinned heats even) (greatest_by ranks pinned heats even / 100 * keep))
+pub within-kept : (ranks : ℕ) (hours : List Hour) (heats inodes : List ℕ) (root keep : ℕ) (even rank : List ℕ) → IsKeptPacking ranks hours heats inodes root keep even rank
+    → greatest_by ranks hours heats rank ≤ allowed keep (greatest_by ranks hours heats even)
+within-kept ranks hours heats inodes root keep even rank chosen = elim chosen.taken [
+  | inl near ↦ subst (λ (xs : List ℕ). greatest_by ranks hours heats xs ≤ allowed keep (greatest_by ranks hours heats even)) (sym near.1) near.0
+  | inr plain ↦ subst (λ (xs : List ℕ). greatest_by ranks hours heats xs ≤ allowed keep (greatest_by ranks hours heats even)) (sym plain.1)
+      (le-add_right (greatest_by ranks hours heats even) (greatest_by ranks hours heats even / 100 * keep))
 ]
 
 -- what is evened is no hotter
-pub cooler-evened : (ranks : ℕ) (pinned heats : List ℕ) (root enough : ℕ) (packed rank : List ℕ) → IsEvened ranks pinned heats root enough packed rank
-    → greatest_by ranks pinned heats rank ≤ greatest_by ranks pinned heats packed
-cooler-evened ranks pinned heats root enough packed rank evened = elim evened.cooler [
-  | inl same ↦ le_of_eq (ap (greatest_by ranks pinned heats) same)
+pub cooler-evened : (ranks : ℕ) (hours : List Hour) (heats : List ℕ) (root enough : ℕ) (packed rank : List ℕ) → IsEvened ranks hours heats root enough packed rank
+    → greatest_by ranks hours heats rank ≤ greatest_by ranks hours heats packed
+cooler-evened ranks hours heats root enough packed rank evened = elim evened.cooler [
+  | inl same ↦ le_of_eq (ap (greatest_by ranks hours heats) same)
   | inr less ↦ le_of_lt less
 ]
 

@@ -1,18 +1,13 @@
 -- Sums over rows, by the parts of the rows.
-use Rattle.std.proofs.Common.{◌≡◌, ◌≢◌, ◌&&◌, ◌∙◌, ◌+◌, ◌*◌, ◌^◌, ◌<◌, ◌≤◌, ◌==◌, ℕ, zero, suc, Bool, true, false, List, length, get_or, set, slice_index, cond, eqb, inl, inr, ⊎_elim, ap, arith, refl, subst, sym}
+use Rattle.std.proofs.Common.{◌≡◌, ◌≢◌, ◌&&◌, ◌∙◌, ◌+◌, ◌*◌, ◌^◌, ◌<◌, ◌≤◌, ◌==◌, ℕ, Bool, true, false, List, length, get_or, set, slice_index, cond, eqb, inl, inr, ⊎_elim, ap, arith, refl, subst, sym}
 use Rattle.std.proofs.lemmas.Bool.{cases_eq, eq-eqb, ne_eqb}
 use Rattle.std.proofs.lemmas.List.{get_or-set_other, get_or-set_same}
-use Rattle.mds_types.specs.declared.problem.ProblemRow.{ProblemRow}
-use Rattle.mds_types.specs.Division.{part_heat}
-use Rattle.mds_types.specs.Problem.{heat_at}
-use Rattle.mds_types.specs.Sums.{sum_below}
-use Rattle.mds_types.proofs.SumsLemmas.{sum_below-le, sum_below-pick, sum_below-same, sum_below-swap, sum_below-zero, sum_below_more}
-use Rattle.ceph_plan.specs.Balance.{load_of_parts}
-use Rattle.ceph_plan.specs.Packing.{HaveParts, heat_to, load, packed_rank}
-
-limits : (n : ℕ) → sum_below n (λ i. 2 ^ 40) ≡ n * 2 ^ 40
-limits zero = refl
-limits (suc n) = omega (arith, limits n)
+use Rattle.mds_types.specs.Sums.{max_below, sum_below}
+use Rattle.mds_types.proofs.SumsLemmas.{sum_below-pick, sum_below-same, sum_below-swap, sum_below-zero, sum_below_more}
+use Rattle.ceph_plan.specs.declared.hours.Hour.{Hour}
+use Rattle.ceph_plan.specs.Balance.{ArePartHours, load_of_parts}
+use Rattle.ceph_plan.specs.Packing.{AreHours, IsPinnedHeat, heat_in, load, load_in, packed_rank, pinned_at}
+use Rattle.ceph_plan.proofs.HourSums.{max-same}
 
 -- each row is in one part
 by-parts : (count n : ℕ) (part h : ℕ → ℕ) → ((i : ℕ) → i < n → part i < count)
@@ -21,17 +16,21 @@ by-parts count n part h below =
     sum_below-swap count n (λ p i. cond (eqb (part i) p) (h i) 0)
     ∙ sum_below-same n (λ i. sum_below count (λ p. cond (eqb (part i) p) (h i) 0)) h (λ i l. sum_below-pick count (part i) (λ p. h i) (below i l))
 
--- the parts have no more heat than a forest can have
-pub heats-small : (rows : List ProblemRow) (part heats : List ℕ) (count : ℕ) → HaveParts rows part count → length heats ≡ count
-    → ((p : ℕ) → p < count → slice_index heats p ≡ part_heat rows (slice_index part) p)
-    → sum_below (length heats) (slice_index heats) ≤ 2 ^ 56
-heats-small rows part heats count parts size are =
-    let n : ℕ = length rows in
-    let same : sum_below count (slice_index heats) ≡ sum_below n (heat_at rows) =
-    sum_below-same count (slice_index heats) (part_heat rows (slice_index part)) are ∙ by-parts count n (slice_index part) (heat_at rows) parts.below in
-    let most : sum_below n (heat_at rows) ≤ sum_below n (λ i. 2 ^ 40) = sum_below-le n (heat_at rows) (λ i. 2 ^ 40) parts.forest.cool in
-    let all : sum_below (length heats) (slice_index heats) ≡ sum_below count (slice_index heats) = ap (λ (k : ℕ). sum_below k (slice_index heats)) size in
-    omega (arith, all, same, most, limits n, parts.forest.few)
+-- the parts have as much heat in each hour as the rows
+pub hours-parts : (hours parts : List Hour) (n count : ℕ) (part : List ℕ) → AreHours hours n → ((i : ℕ) → i < n → slice_index part i < count)
+    → ArePartHours hours n part count parts → AreHours parts count
+hours-parts hours parts n count part are below of = record {
+  pinned = λ h l. subst IsPinnedHeat (sym (of.pinned h (inside h l))) (are.pinned h (inside h l));
+  size = λ h l. of.sizes h (inside h l);
+  total = λ h l.
+      let same : sum_below count (heat_in parts h) ≡ sum_below n (heat_in hours h) =
+      sum_below-same count (heat_in parts h) (λ p. sum_below n (λ i. cond (eqb (slice_index part i) p) (heat_in hours h i) 0)) (λ p lp. of.heats h p (inside h l) lp)
+      ∙ by-parts count n (slice_index part) (heat_in hours h) below in
+      omega (arith, same, are.total h (inside h l));
+}
+  where
+    inside : (h : ℕ) → h < length parts → h < length hours
+    inside h l = omega (arith, l, of.size)
 
 -- a part's rows go where the part goes
 spread : (b : Bool) (n p : ℕ) (part h : ℕ → ℕ)
@@ -54,21 +53,25 @@ to-parts count n r part rank h below =
     (λ i. cond (eqb (rank (part i)) r) (h i) 0) (λ i l. sum_below-pick count (part i) (λ p. cond (eqb (rank p) r) (h i) 0) (below i l)))
 
 -- the load of a rank, from the rows and from the parts
-pub load-parts : (rows : List ProblemRow) (pinned part heats rank : List ℕ) (count r : ℕ) → length heats ≡ count
-    → ((i : ℕ) → i < length rows → slice_index part i < count)
-    → ((p : ℕ) → p < count → slice_index heats p ≡ part_heat rows (slice_index part) p)
-    → load pinned rows (packed_rank rank part) r ≡ load_of_parts pinned heats rank r
-load-parts rows pinned part heats rank count r size below are =
-    let parts : sum_below count (λ p. cond (eqb (slice_index rank p) r) (slice_index heats p) 0)
-    ≡ sum_below count (λ p. cond (eqb (slice_index rank p) r) (part_heat rows (slice_index part) p) 0) =
-    sum_below-same count (λ p. cond (eqb (slice_index rank p) r) (slice_index heats p) 0) (λ p. cond (eqb (slice_index rank p) r) (part_heat rows (slice_index part) p) 0)
-    (λ p l. ap (λ (x : ℕ). cond (eqb (slice_index rank p) r) x 0) (are p l)) in
-    let all : sum_below (length heats) (λ p. cond (eqb (slice_index rank p) r) (slice_index heats p) 0)
-    ≡ sum_below count (λ p. cond (eqb (slice_index rank p) r) (slice_index heats p) 0) =
-    ap (λ (k : ℕ). sum_below k (λ p. cond (eqb (slice_index rank p) r) (slice_index heats p) 0)) size in
-    let rowwise : sum_below count (λ p. cond (eqb (slice_index rank p) r) (part_heat rows (slice_index part) p) 0) ≡ heat_to rows (length rows) (packed_rank rank part) r =
-    to-parts count (length rows) r (slice_index part) (slice_index rank) (heat_at rows) below in
-    omega (arith, parts, all, rowwise)
+pub load-parts : (hours parts : List Hour) (part heats rank : List ℕ) (n count r : ℕ) → length heats ≡ count
+    → ((i : ℕ) → i < n → slice_index part i < count) → ArePartHours hours n part count parts
+    → load hours n (packed_rank rank part) r ≡ load_of_parts parts heats rank r
+load-parts hours parts part heats rank n count r size below of =
+    max-same (length hours) (λ h. load_in hours n (packed_rank rank part) h r) (λ h. load_in parts (length heats) (slice_index rank) h r) (λ h l. in-hour h l)
+    ∙ ap (λ (k : ℕ). max_below k (λ h. load_in parts (length heats) (slice_index rank) h r)) (sym of.size)
+  where
+    in-hour : (h : ℕ) → h < length hours → load_in hours n (packed_rank rank part) h r ≡ load_in parts (length heats) (slice_index rank) h r
+    in-hour h l =
+        let pinned : pinned_at parts h r ≡ pinned_at hours h r = ap (λ (xs : List ℕ). slice_index xs r) (of.pinned h l) in
+        let sums : sum_below count (λ p. cond (eqb (slice_index rank p) r) (heat_in parts h p) 0)
+        ≡ sum_below count (λ p. cond (eqb (slice_index rank p) r) (sum_below n (λ i. cond (eqb (slice_index part i) p) (heat_in hours h i) 0)) 0) =
+        sum_below-same count (λ p. cond (eqb (slice_index rank p) r) (heat_in parts h p) 0)
+        (λ p. cond (eqb (slice_index rank p) r) (sum_below n (λ i. cond (eqb (slice_index part i) p) (heat_in hours h i) 0)) 0)
+        (λ p lp. ap (λ (x : ℕ). cond (eqb (slice_index rank p) r) x 0) (of.heats h p l lp)) in
+        let all : sum_below (length heats) (λ p. cond (eqb (slice_index rank p) r) (heat_in parts h p) 0)
+        ≡ sum_below count (λ p. cond (eqb (slice_index rank p) r) (heat_in parts h p) 0) =
+        ap (λ (k : ℕ). sum_below k (λ p. cond (eqb (slice_index rank p) r) (heat_in parts h p) 0)) size in
+        omega (arith, pinned, sums, all, to-parts count n r (slice_index part) (slice_index rank) (heat_in hours h) below)
 
 -- one more row's inodes are at its part and its rank
 pub cell-more : (inodes : List ℕ) (k v more p r part now : ℕ) → k ≡ part * 64 + now → now < 64 → r < 64 → k < length inodes → v ≡ get_or inodes k 0 + more

@@ -1,17 +1,19 @@
 -- The parts of rows that go to given ranks, with one more row, and what plan they are.
-use Rattle.std.proofs.Common.{◌≡◌, ◌≢◌, ◌∙◌, ◌<◌, ◌≤◌, ◌+◌, ◌*◌, ◌^◌, ◌⊎◌, ◌==◌, ℕ, zero, suc, Bool, true, false, not, cond, List, [], ◌∷◌, ◌++◌, length, length-append, max, slice_index, ap, arith, refl, subst, sym, ⊎_elim}
+use Rattle.std.proofs.Common.{◌≡◌, ◌≢◌, ◌∙◌, ◌<◌, ◌+◌, ◌⊎◌, ◌==◌, ℕ, Bool, true, false, not, cond, List, [], ◌∷◌, ◌++◌, length, length-append, max, slice_index, ap, arith, refl, subst, sym, ⊎_elim}
 use Rattle.std.proofs.lemmas.Bool.{cases_Bool, cases_eq, eqb-true, both_ways, or_parts, eqb-false}
 use Rattle.mds_types.specs.declared.problem.ProblemRow.{ProblemRow}
-use Rattle.mds_types.specs.Problem.{IsForest, heat_at, parent_at}
+use Rattle.mds_types.specs.Problem.{IsForest, parent_at}
 use Rattle.mds_types.specs.RankSet.{has_rank}
 use Rattle.mds_types.proofs.SumsLemmas.{sum_below-same}
 use Rattle.residual_cut.specs.Labels.{IsLabelled, starts}
 use Rattle.residual_cut.proofs.LabelLemmas.{labelled_none, labelled_parts, labelled_step, slice_index-last, slice_index-push}
-use Rattle.ceph_plan.specs.Packing.{IsPacking, greatest_of, heat_to, load, packed_rank}
-use Rattle.ceph_plan.specs.Placements.{AreGoals, AreLoads, AreRegions, IsPlacement, is_border}
+use Rattle.ceph_plan.specs.declared.hours.Hour.{Hour}
+use Rattle.ceph_plan.specs.Packing.{IsPacking, greatest_of, heat_in, load, load_in, packed_rank, pinned_at}
+use Rattle.ceph_plan.specs.Placements.{AreGoals, AreRegions, IsPlacement, is_border}
 use Rattle.ceph_plan.specs.Plans.{moved_inodes}
 use Rattle.ceph_plan.specs.declared.plan.Planned.{Planned}
 use Rattle.ceph_plan.proofs.Bounds.{greatest-same}
+use Rattle.ceph_plan.proofs.HourSums.{max-same}
 
 pub regions-none : (rows : List ProblemRow) (goals part rank : List ℕ) → part ≡ [] → rank ≡ [] → AreRegions rows goals 0 part rank
 regions-none rows goals part rank part_is rank_is = record {
@@ -84,51 +86,45 @@ region-step rows goals part part2 rank rank2 i next forest here part2_is begins 
     })
     how
 
-pub heat-to-same : (rows : List ProblemRow) (n r : ℕ) (to those : ℕ → ℕ) → ((i : ℕ) → i < n → to i ≡ those i) → heat_to rows n to r ≡ heat_to rows n those r
-heat-to-same rows n r to those same =
-    sum_below-same n (λ i. cond (to i == r) (heat_at rows i) 0) (λ i. cond (those i == r) (heat_at rows i) 0)
-    (λ i l. ap (λ (x : ℕ). cond (x == r) (heat_at rows i) 0) (same i l))
+-- the loads where rows go to the same ranks
+pub load-to : (hours : List Hour) (n r : ℕ) (to those : ℕ → ℕ) → ((i : ℕ) → i < n → to i ≡ those i) → load hours n to r ≡ load hours n those r
+load-to hours n r to those same = max-same (length hours) (λ h. load_in hours n to h r) (λ h. load_in hours n those h r) (λ h l.
+    ap (λ (x : ℕ). pinned_at hours h r + x)
+    (sum_below-same n (λ i. cond (to i == r) (heat_in hours h i) 0) (λ i. cond (those i == r) (heat_in hours h i) 0)
+    (λ i inside. ap (λ (x : ℕ). cond (x == r) (heat_in hours h i) 0) (same i inside))))
 
 -- the parts with their ranks are a packing
-pub regions-packing : (ranks : ℕ) (pinned : List ℕ) (rows : List ProblemRow) (goals : List ℕ) (plan : Planned) → 0 < length rows → AreGoals ranks (length rows) goals
+pub regions-packing : (ranks : ℕ) (hours : List Hour) (rows : List ProblemRow) (goals : List ℕ) (plan : Planned) → 0 < length rows → AreGoals ranks (length rows) goals
     → AreRegions rows goals (length rows) plan.part.items plan.packing.rank.items → plan.count ≡ length plan.packing.rank.items
-    → AreLoads pinned rows goals (length rows) plan.packing.load.items → plan.packing.greatest ≡ greatest_of ranks (slice_index plan.packing.load.items)
-    → IsPacking ranks pinned rows plan.part.items plan.count plan.packing
-regions-packing ranks pinned rows goals plan some are regions count loads greatest =
+    → length plan.packing.load.items ≡ 64 → ((r : ℕ) → r < 64 → slice_index plan.packing.load.items r ≡ load hours (length rows) (slice_index goals) r)
+    → plan.packing.greatest ≡ greatest_of ranks (slice_index plan.packing.load.items)
+    → IsPacking ranks hours rows plan.part.items plan.count plan.packing
+regions-packing ranks hours rows goals plan some are regions count size loads greatest =
     let to : ℕ → ℕ = packed_rank plan.packing.rank.items plan.part.items in
-    let at : (r : ℕ) → r < 64 → slice_index plan.packing.load.items r ≡ load pinned rows to r =
-    λ r l. loads.are r l ∙ ap (λ (x : ℕ). slice_index pinned r + x) (heat-to-same rows (length rows) r (slice_index goals) to (λ i inside. sym (regions.ranks i inside))) in
+    let at : (r : ℕ) → r < 64 → slice_index plan.packing.load.items r ≡ load hours (length rows) to r =
+    λ r l. loads r l ∙ load-to hours (length rows) r (slice_index goals) to (λ i inside. sym (regions.ranks i inside)) in
     record {
       size = sym count;
       usable = λ p l.
           let used = regions.labelled.all p (omega (arith, l, count)) in
           ap (has_rank ranks) (ap (slice_index plan.packing.rank.items) (sym used.2) ∙ regions.ranks used.0 used.1) ∙ are.usable used.0 used.1;
       root = regions.ranks 0 some ∙ are.root some;
-      loads_size = loads.size;
+      loads_size = size;
       loads = at;
-      greatest = greatest ∙ greatest-same ranks (slice_index plan.packing.load.items) (load pinned rows to) at;
+      greatest = greatest ∙ greatest-same ranks (slice_index plan.packing.load.items) (load hours (length rows) to) at;
     }
 
-pub regions-placed : (ranks : ℕ) (pinned : List ℕ) (rows : List ProblemRow) (goals : List ℕ) (plan : Planned) → IsForest rows → 0 < length rows → AreGoals ranks (length rows) goals
+pub regions-placed : (ranks : ℕ) (hours : List Hour) (rows : List ProblemRow) (goals : List ℕ) (plan : Planned) → IsForest rows → 0 < length rows → AreGoals ranks (length rows) goals
     → AreRegions rows goals (length rows) plan.part.items plan.packing.rank.items → plan.count ≡ length plan.packing.rank.items
-    → AreLoads pinned rows goals (length rows) plan.packing.load.items → plan.packing.greatest ≡ greatest_of ranks (slice_index plan.packing.load.items)
-    → plan.moved ≡ moved_inodes rows plan.part.items plan.packing.rank.items (length rows) → IsPlacement ranks pinned rows plan
-regions-placed ranks pinned rows goals plan forest some are regions count loads greatest moved =
+    → length plan.packing.load.items ≡ 64 → ((r : ℕ) → r < 64 → slice_index plan.packing.load.items r ≡ load hours (length rows) (slice_index goals) r)
+    → plan.packing.greatest ≡ greatest_of ranks (slice_index plan.packing.load.items)
+    → plan.moved ≡ moved_inodes rows plan.part.items plan.packing.rank.items (length rows) → IsPlacement ranks hours rows plan
+regions-placed ranks hours rows goals plan forest some are regions count size loads greatest moved =
     let parts = labelled_parts rows (is_border rows goals) (slice_index plan.part.items) (length plan.packing.rank.items) forest regions.labelled in
     record {
       forest = forest;
       size = regions.size;
       division = record { below = λ i l. omega (arith, count, parts.division.below i l); connected = parts.division.connected };
-      packing = regions-packing ranks pinned rows goals plan some are regions count loads greatest;
+      packing = regions-packing ranks hours rows goals plan some are regions count size loads greatest;
       moved = moved;
     }
-
--- a load is no more than what is pinned and 2 ^ 40 for each row
-cond-le : (b : Bool) (x : ℕ) → cond b x 0 ≤ x
-cond-le true x = omega arith
-cond-le false x = omega arith
-
-pub heat-to-small : (rows : List ProblemRow) (to : ℕ → ℕ) (r n : ℕ) → IsForest rows → n ≤ length rows → heat_to rows n to r ≤ n * 2 ^ 40
-heat-to-small rows to r zero forest le = omega arith
-heat-to-small rows to r (suc n) forest le =
-    omega (arith, heat-to-small rows to r n forest (omega arith), cond-le (to n == r) (heat_at rows n), forest.cool n (omega arith))

@@ -6,6 +6,7 @@ use Rattle.std.proofs.lemmas.Bool.{cases_lt}
 use Rattle.std.specs.Prelude.{map}
 use Rattle.std.proofs.lemmas.Option.{none-some, slice_get_within}
 use Rattle.mds_types.specs.declared.problem.ProblemRow.{ProblemRow}
+use Rattle.ceph_plan.specs.declared.hours.Hour.{Hour}
 use Rattle.ceph_plan.specs.declared.choice.PartCount.{PartCount}
 use Rattle.ceph_plan.specs.declared.choice.PartCount.TheVariants.{AtMost, Auto}
 use Rattle.ceph_plan.specs.declared.packing.Packed.{Packed}
@@ -18,32 +19,32 @@ use Rattle.ceph_plan.specs.Plans.{IsDivided, IsPlan, no_cap, planned_of}
 use Rattle.ceph_plan.proofs.PackedParts.{allowed-wider}
 
 -- a division of rows with one of its packings is a plan
-plan-of : (ranks : ℕ) (pinned : List ℕ) (rows : List ProblemRow) (parts cap v : ℕ) (divided : PackedDivision) (packed : Packed) → IsDivided ranks pinned rows parts cap divided
-    → slice_get divided.packings.each.items v ≡ Some packed → IsPlan ranks pinned rows (planned_of divided packed)
-plan-of ranks pinned rows parts cap v divided packed is there =
+plan-of : (ranks : ℕ) (hours : List Hour) (rows : List ProblemRow) (parts cap v : ℕ) (divided : PackedDivision) (packed : Packed) → IsDivided ranks hours rows parts cap divided
+    → slice_get divided.packings.each.items v ≡ Some packed → IsPlan ranks hours rows (planned_of divided packed)
+plan-of ranks hours rows parts cap v divided packed is there =
     let of = is.packings.are v packed there in
     record { forest = is.forest; size = is.size; division = is.division; packing = of.packing; balanced = of.balanced; moved = of.moved }
 
-pub plan-taken : (ranks keep : ℕ) (pinned : List ℕ) (rows : List ProblemRow) (divisions : List PackedDivision) (plan : Planned) → AreDivisions ranks pinned rows divisions
-    → IsTaken keep divisions plan → IsPlan ranks pinned rows plan
-plan-taken ranks keep pinned rows divisions plan all taken =
+pub plan-taken : (ranks keep : ℕ) (hours : List Hour) (rows : List ProblemRow) (divisions : List PackedDivision) (plan : Planned) → AreDivisions ranks hours rows divisions
+    → IsTaken keep divisions plan → IsPlan ranks hours rows plan
+plan-taken ranks keep hours rows divisions plan all taken =
     let of = all taken.k taken.divided taken.at in
-    subst (IsPlan ranks pinned rows) (sym taken.is) (plan-of ranks pinned rows of.0 of.1 taken.v taken.divided taken.packed of.2 taken.there)
+    subst (IsPlan ranks hours rows) (sym taken.is) (plan-of ranks hours rows of.0 of.1 taken.v taken.divided taken.packed of.2 taken.there)
 
 only : (divided one : PackedDivision) (k : ℕ) → slice_get (divided ∷ []) k ≡ Some one → divided ≡ one
 only divided one zero is = ap (λ (o : Option PackedDivision). option_map_or (λ (d : PackedDivision). d) o divided) is
 only divided one (suc k) is = absurd (none-some one is)
 
 -- what is tried are divisions of the rows, and there is one at least
-tried-all : (ranks : ℕ) (pinned : List ℕ) (rows : List ProblemRow) (parts : PartCount) (divisions : List PackedDivision) → AreTried ranks pinned rows parts divisions
-    → AreDivisions ranks pinned rows divisions × (0 < length divisions)
-tried-all ranks pinned rows (Auto most) divisions tried = (tried.0.all, tried.1)
-tried-all ranks pinned rows (AtMost parts) divisions tried = subst (λ (those : List PackedDivision). AreDivisions ranks pinned rows those × (0 < length those)) (sym tried.only)
-    ((λ k one there. (parts, no_cap, subst (IsDivided ranks pinned rows parts no_cap) (only tried.divided one k there) tried.of)), omega arith)
+tried-all : (ranks : ℕ) (hours : List Hour) (rows : List ProblemRow) (parts : PartCount) (divisions : List PackedDivision) → AreTried ranks hours rows parts divisions
+    → AreDivisions ranks hours rows divisions × (0 < length divisions)
+tried-all ranks hours rows (Auto most) divisions tried = (tried.0.all, tried.1)
+tried-all ranks hours rows (AtMost parts) divisions tried = subst (λ (those : List PackedDivision). AreDivisions ranks hours rows those × (0 < length those)) (sym tried.only)
+    ((λ k one there. (parts, no_cap, subst (IsDivided ranks hours rows parts no_cap) (only tried.divided one k there) tried.of)), omega arith)
 
-pub divisions-tried : (ranks : ℕ) (pinned : List ℕ) (rows : List ProblemRow) (parts : PartCount) (divisions : List PackedDivision) → AreTried ranks pinned rows parts divisions
-    → AreDivisions ranks pinned rows divisions
-divisions-tried ranks pinned rows parts divisions tried = (tried-all ranks pinned rows parts divisions tried).0
+pub divisions-tried : (ranks : ℕ) (hours : List Hour) (rows : List ProblemRow) (parts : PartCount) (divisions : List PackedDivision) → AreTried ranks hours rows parts divisions
+    → AreDivisions ranks hours rows divisions
+divisions-tried ranks hours rows parts divisions tried = (tried-all ranks hours rows parts divisions tried).0
 
 -- the first packing, without any tolerance, is as cool as that by heat only
 first-cool : (each : List Packed) → map (λ (packed : Packed). packed.packing.keep) each ≡ TOLERANCES.now → (packed : Packed) × (slice_get each 0 ≡ Some packed) × (packed.packing.keep ≡ 0)
@@ -53,9 +54,9 @@ first-cool [] is = let none : ⊥ = no-tolerance is in absurd none
     no-tolerance e = let none : 0 ≡ length TOLERANCES.now = ap (λ (xs : List ℕ). length xs) e in omega (arith, none)
 first-cool (packed ∷ each) is = (packed, refl, ap (λ (xs : List ℕ). option_map_or (λ (k : ℕ). k) (slice_get xs 0) 0) is)
 
-cool-division : (ranks : ℕ) (pinned : List ℕ) (rows : List ProblemRow) (parts cap : ℕ) (divided : PackedDivision) → IsDivided ranks pinned rows parts cap divided
+cool-division : (ranks : ℕ) (hours : List Hour) (rows : List ProblemRow) (parts cap : ℕ) (divided : PackedDivision) → IsDivided ranks hours rows parts cap divided
     → (v : ℕ) × (v < length divided.packings.each.items) × (greatest_in divided.packings.each.items v ≤ divided.packings.even)
-cool-division ranks pinned rows parts cap divided is =
+cool-division ranks hours rows parts cap divided is =
     let first = first-cool divided.packings.each.items is.packings.keeps in
     let packed = is.packings.are 0 first.0 first.1 in
     let within : first.0.packing.greatest ≤ allowed first.0.packing.keep first.0.packing.even = packed.balanced.packed.within in
@@ -67,15 +68,15 @@ cool-division ranks pinned rows parts cap divided is =
     zero-more : (load : ℕ) → load + load / 100 * 0 ≡ load
     zero-more load = omega arith
 
-pub are-cool : (ranks : ℕ) (pinned : List ℕ) (rows : List ProblemRow) (parts : PartCount) (divisions : List PackedDivision) → AreTried ranks pinned rows parts divisions → AreCool divisions
-are-cool ranks pinned rows parts divisions tried = let all = tried-all ranks pinned rows parts divisions tried in record {
+pub are-cool : (ranks : ℕ) (hours : List Hour) (rows : List ProblemRow) (parts : PartCount) (divisions : List PackedDivision) → AreTried ranks hours rows parts divisions → AreCool divisions
+are-cool ranks hours rows parts divisions tried = let all = tried-all ranks hours rows parts divisions tried in record {
   some = all.1;
   cool = λ k inside.
       let some = there divisions k inside in
       let of = all.0 k some.0 some.1 in
       subst (λ (o : Option PackedDivision). (v : ℕ) × (v < length (option_map_or (λ (one : PackedDivision). one.packings.each.items) o []))
       × (greatest_in (option_map_or (λ (one : PackedDivision). one.packings.each.items) o []) v ≤ option_map_or (λ (one : PackedDivision). one.packings.even) o 0)) (sym some.1)
-      (cool-division ranks pinned rows of.0 of.1 some.0 of.2);
+      (cool-division ranks hours rows of.0 of.1 some.0 of.2);
 }
   where
     there : (divisions : List PackedDivision) (k : ℕ) → k < length divisions → (divided : PackedDivision) × (slice_get divisions k ≡ Some divided)

@@ -7,6 +7,7 @@ use Rattle.std.specs.List.{slice_get}
 use Rattle.std.specs.Option.{option_map_or}
 use Rattle.mds_types.specs.declared.problem.ProblemRow.{ProblemRow}
 use Rattle.mds_types.specs.RankSet.{rank_count}
+use Rattle.ceph_plan.specs.declared.hours.Hour.{Hour}
 use Rattle.ceph_plan.specs.declared.plan.PackedDivision.{PackedDivision}
 use Rattle.ceph_plan.specs.declared.plan.Size.{Size}
 use Rattle.ceph_plan.specs.Choice.{AreWeighed, HasDivision, HasHeavyDivision, IsWeighed, fair_share, gap, size_of, total_of_rows}
@@ -28,14 +29,14 @@ get_either (a ∷ xs) x y zero is = inl is
 get_either (a ∷ xs) x y (suc k) is = get_either xs x y k is
 
 -- what is there stays there
-plan_kept : (ranks : ℕ) (pinned : List ℕ) (rows : List ProblemRow) (plans : List PackedDivision) (more : PackedDivision) (parts cap : ℕ)
-    → HasDivision ranks pinned rows plans parts cap → HasDivision ranks pinned rows (plans ++ more ∷ []) parts cap
-plan_kept ranks pinned rows plans more parts cap has =
+plan_kept : (ranks : ℕ) (hours : List Hour) (rows : List ProblemRow) (plans : List PackedDivision) (more : PackedDivision) (parts cap : ℕ)
+    → HasDivision ranks hours rows plans parts cap → HasDivision ranks hours rows (plans ++ more ∷ []) parts cap
+plan_kept ranks hours rows plans more parts cap has =
     record { k = has.k; divided = has.divided; there = get_kept plans more has.divided has.k has.there; of = has.of }
 
-heavy_kept : (ranks : ℕ) (pinned : List ℕ) (rows : List ProblemRow) (plans : List PackedDivision) (more : PackedDivision) (parts next : ℕ) → parts ≤ next
-    → HasHeavyDivision ranks pinned rows plans parts → HasHeavyDivision ranks pinned rows (plans ++ more ∷ []) next
-heavy_kept ranks pinned rows plans more parts next le has = record {
+heavy_kept : (ranks : ℕ) (hours : List Hour) (rows : List ProblemRow) (plans : List PackedDivision) (more : PackedDivision) (parts next : ℕ) → parts ≤ next
+    → HasHeavyDivision ranks hours rows plans parts → HasHeavyDivision ranks hours rows (plans ++ more ∷ []) next
+heavy_kept ranks hours rows plans more parts next le has = record {
   fewer = has.fewer;
   less = le_trans has.less le;
   k = has.k;
@@ -45,34 +46,34 @@ heavy_kept ranks pinned rows plans more parts next le has = record {
   heavy = has.heavy;
 }
 
-weighed_kept : (ranks : ℕ) (pinned : List ℕ) (rows : List ProblemRow) (plans : List PackedDivision) (more : PackedDivision) (parts : ℕ)
-    → IsWeighed ranks pinned rows plans parts → IsWeighed ranks pinned rows (plans ++ more ∷ []) parts
-weighed_kept ranks pinned rows plans more parts is = record {
+weighed_kept : (ranks : ℕ) (hours : List Hour) (rows : List ProblemRow) (plans : List PackedDivision) (more : PackedDivision) (parts : ℕ)
+    → IsWeighed ranks hours rows plans parts → IsWeighed ranks hours rows (plans ++ more ∷ []) parts
+weighed_kept ranks hours rows plans more parts is = record {
   tried = is.tried;
   low = is.low;
   near = is.near;
   of = elim is.of [
-    | inl has ↦ inl (plan_kept ranks pinned rows plans more is.tried no_cap has)
+    | inl has ↦ inl (plan_kept ranks hours rows plans more is.tried no_cap has)
     | inr has ↦ inr (
-      heavy_kept ranks pinned rows plans more is.tried is.tried (le_refl is.tried) has.0,
-      plan_kept ranks pinned rows plans more is.tried (fair_share (total_of_rows rows) is.tried) has.1,
+      heavy_kept ranks hours rows plans more is.tried is.tried (le_refl is.tried) has.0,
+      plan_kept ranks hours rows plans more is.tried (fair_share (total_of_rows rows) is.tried) has.1,
     )
   ];
 }
 
 -- one more plan, of this number of parts
-pub weighed_more : (ranks : ℕ) (pinned : List ℕ) (rows : List ProblemRow) (plans : List PackedDivision) (n next cap : ℕ) (more : PackedDivision) → AreWeighed ranks pinned rows plans n
-    → next ≡ n + gap n + 1 → IsDivided ranks pinned rows n cap more
-    → HasDivision ranks pinned rows (plans ++ more ∷ []) n no_cap
-    ⊎ (HasHeavyDivision ranks pinned rows (plans ++ more ∷ []) n × HasDivision ranks pinned rows (plans ++ more ∷ []) n (fair_share (total_of_rows rows) n))
-    → AreWeighed ranks pinned rows (plans ++ more ∷ []) next
-weighed_more ranks pinned rows plans n next cap more before step is of = record {
+pub weighed_more : (ranks : ℕ) (hours : List Hour) (rows : List ProblemRow) (plans : List PackedDivision) (n next cap : ℕ) (more : PackedDivision) → AreWeighed ranks hours rows plans n
+    → next ≡ n + gap n + 1 → IsDivided ranks hours rows n cap more
+    → HasDivision ranks hours rows (plans ++ more ∷ []) n no_cap
+    ⊎ (HasHeavyDivision ranks hours rows (plans ++ more ∷ []) n × HasDivision ranks hours rows (plans ++ more ∷ []) n (fair_share (total_of_rows rows) n))
+    → AreWeighed ranks hours rows (plans ++ more ∷ []) next
+weighed_more ranks hours rows plans n next cap more before step is of = record {
   all = λ k plan there.
       ⊎_elim (λ (old : slice_get plans k ≡ Some plan). before.all k plan old)
-      (λ (new : more ≡ plan). (n, cap, subst (IsDivided ranks pinned rows n cap) new is))
+      (λ (new : more ≡ plan). (n, cap, subst (IsDivided ranks hours rows n cap) new is))
       (get_either plans more plan k there);
   each = λ parts low high.
-      ⊎_elim (λ (old : parts < n). weighed_kept ranks pinned rows plans more parts (before.each parts low old))
+      ⊎_elim (λ (old : parts < n). weighed_kept ranks hours rows plans more parts (before.each parts low old))
       (λ (new : n ≤ parts). record { tried = n; low = new; near = below-next parts n (gap n) next high step; of = of })
       (cases_lt parts n);
 }
@@ -80,51 +81,51 @@ weighed_more ranks pinned rows plans n next cap more before step is of = record 
     below-next : (parts n over next : ℕ) → parts < next → next ≡ n + over + 1 → parts ≤ n + over
     below-next parts n over next high step = omega (arith, high, step)
 
-has_last : (ranks : ℕ) (pinned : List ℕ) (rows : List ProblemRow) (plans : List PackedDivision) (more : PackedDivision) (n cap : ℕ) → IsDivided ranks pinned rows n cap more
-    → HasDivision ranks pinned rows (plans ++ more ∷ []) n cap
-has_last ranks pinned rows plans more n cap of = record { k = length plans; divided = more; there = get_last plans more; of = of }
+has_last : (ranks : ℕ) (hours : List Hour) (rows : List ProblemRow) (plans : List PackedDivision) (more : PackedDivision) (n cap : ℕ) → IsDivided ranks hours rows n cap more
+    → HasDivision ranks hours rows (plans ++ more ∷ []) n cap
+has_last ranks hours rows plans more n cap of = record { k = length plans; divided = more; there = get_last plans more; of = of }
 
 -- what was weighed so far, and that a plan was heavy where the flag is set
-pub record IsSoFar (ranks : ℕ) (pinned : List ℕ) (rows : List ProblemRow) (plans : List PackedDivision) (heavy : Bool) (n : ℕ) : Type 0 where
-  pub weighed : AreWeighed ranks pinned rows plans n
-  pub flag : heavy ≡ true → HasHeavyDivision ranks pinned rows plans n
+pub record IsSoFar (ranks : ℕ) (hours : List Hour) (rows : List ProblemRow) (plans : List PackedDivision) (heavy : Bool) (n : ℕ) : Type 0 where
+  pub weighed : AreWeighed ranks hours rows plans n
+  pub flag : heavy ≡ true → HasHeavyDivision ranks hours rows plans n
 
 -- a plan of the size that is to be weighed is added
-pub more-so_far : (ranks : ℕ) (pinned : List ℕ) (rows : List ProblemRow) (plans : List PackedDivision) (heavy now : Bool) (n next heat : ℕ) (size : Size) (more : PackedDivision)
-    → heat ≡ total_of_rows rows → size ≡ size_of heat n heavy → IsDivided ranks pinned rows size.parts size.cap more → next ≡ n + gap n + 1
-    → now ≡ (heavy || more.is_heavy) → IsSoFar ranks pinned rows plans heavy n → IsSoFar ranks pinned rows (plans ++ more ∷ []) now next
-more-so_far ranks pinned rows plans false now n next heat size more heat_is sized of step now_is before =
-    let plain : IsDivided ranks pinned rows n no_cap more = subst (λ (s : Size). IsDivided ranks pinned rows s.parts s.cap more) sized of in
+pub more-so_far : (ranks : ℕ) (hours : List Hour) (rows : List ProblemRow) (plans : List PackedDivision) (heavy now : Bool) (n next heat : ℕ) (size : Size) (more : PackedDivision)
+    → heat ≡ total_of_rows rows → size ≡ size_of heat n heavy → IsDivided ranks hours rows size.parts size.cap more → next ≡ n + gap n + 1
+    → now ≡ (heavy || more.is_heavy) → IsSoFar ranks hours rows plans heavy n → IsSoFar ranks hours rows (plans ++ more ∷ []) now next
+more-so_far ranks hours rows plans false now n next heat size more heat_is sized of step now_is before =
+    let plain : IsDivided ranks hours rows n no_cap more = subst (λ (s : Size). IsDivided ranks hours rows s.parts s.cap more) sized of in
     let less : n < next = later n (gap n) next step in
     record {
-      weighed = weighed_more ranks pinned rows plans n next no_cap more before.weighed step plain (inl (has_last ranks pinned rows plans more n no_cap plain));
+      weighed = weighed_more ranks hours rows plans n next no_cap more before.weighed step plain (inl (has_last ranks hours rows plans more n no_cap plain));
       flag = λ set. record { fewer = n; less = less; k = length plans; divided = more; there = get_last plans more; of = plain; heavy = sym now_is ∙ set };
     }
   where
     later : (n over next : ℕ) → next ≡ n + over + 1 → n < next
     later n over next step = omega (arith, step)
-more-so_far ranks pinned rows plans true now n next heat size more heat_is sized of step now_is before =
-    let heavy : HasHeavyDivision ranks pinned rows plans n = before.flag refl in
-    let capped : IsDivided ranks pinned rows n (fair_share (total_of_rows rows) n) more =
-    subst (λ (h : ℕ). IsDivided ranks pinned rows n (fair_share h n) more) heat_is
-    (subst (λ (s : Size). IsDivided ranks pinned rows s.parts s.cap more) sized of) in
+more-so_far ranks hours rows plans true now n next heat size more heat_is sized of step now_is before =
+    let heavy : HasHeavyDivision ranks hours rows plans n = before.flag refl in
+    let capped : IsDivided ranks hours rows n (fair_share (total_of_rows rows) n) more =
+    subst (λ (h : ℕ). IsDivided ranks hours rows n (fair_share h n) more) heat_is
+    (subst (λ (s : Size). IsDivided ranks hours rows s.parts s.cap more) sized of) in
     record {
-      weighed = weighed_more ranks pinned rows plans n next (fair_share (total_of_rows rows) n) more before.weighed step capped
-          (inr (heavy_kept ranks pinned rows plans more n n (le_refl n) heavy, has_last ranks pinned rows plans more n (fair_share (total_of_rows rows) n) capped));
-      flag = λ set. heavy_kept ranks pinned rows plans more n next (later n (gap n) next step) heavy;
+      weighed = weighed_more ranks hours rows plans n next (fair_share (total_of_rows rows) n) more before.weighed step capped
+          (inr (heavy_kept ranks hours rows plans more n n (le_refl n) heavy, has_last ranks hours rows plans more n (fair_share (total_of_rows rows) n) capped));
+      flag = λ set. heavy_kept ranks hours rows plans more n next (later n (gap n) next step) heavy;
     }
   where
     later : (n over next : ℕ) → next ≡ n + over + 1 → n ≤ next
     later n over next step = omega (arith, step)
 
 -- what is weighed below a number is so below a smaller one
-pub weighed_fewer : (ranks : ℕ) (pinned : List ℕ) (rows : List ProblemRow) (plans : List PackedDivision) (n m : ℕ) → m ≤ n → AreWeighed ranks pinned rows plans n
-    → AreWeighed ranks pinned rows plans m
-weighed_fewer ranks pinned rows plans n m le are = record { all = are.all; each = λ parts low high. are.each parts low (le_trans high le) }
+pub weighed_fewer : (ranks : ℕ) (hours : List Hour) (rows : List ProblemRow) (plans : List PackedDivision) (n m : ℕ) → m ≤ n → AreWeighed ranks hours rows plans n
+    → AreWeighed ranks hours rows plans m
+weighed_fewer ranks hours rows plans n m le are = record { all = are.all; each = λ parts low high. are.each parts low (le_trans high le) }
 
 -- some plan was weighed
-pub some_weighed : (ranks : ℕ) (pinned : List ℕ) (rows : List ProblemRow) (plans : List PackedDivision) (n : ℕ) → rank_count ranks < n → AreWeighed ranks pinned rows plans n → 0 < length plans
-some_weighed ranks pinned rows plans n more weighed = elim (weighed.each (rank_count ranks) (le_refl (rank_count ranks)) more).of [
+pub some_weighed : (ranks : ℕ) (hours : List Hour) (rows : List ProblemRow) (plans : List PackedDivision) (n : ℕ) → rank_count ranks < n → AreWeighed ranks hours rows plans n → 0 < length plans
+some_weighed ranks hours rows plans n more weighed = elim (weighed.each (rank_count ranks) (le_refl (rank_count ranks)) more).of [
   | inl has ↦ positive has.k (length plans) (slice_get_within plans has.k has.divided has.there)
   | inr has ↦ positive has.1.k (length plans) (slice_get_within plans has.1.k has.1.divided has.1.there)
 ]
@@ -133,14 +134,14 @@ some_weighed ranks pinned rows plans n more weighed = elim (weighed.each (rank_c
     positive k n inside = omega arith
 
 -- none is weighed before the first
-none_weighed : (ranks : ℕ) (pinned : List ℕ) (rows : List ProblemRow) → AreWeighed ranks pinned rows [] (rank_count ranks)
-none_weighed ranks pinned rows = record {
+none_weighed : (ranks : ℕ) (hours : List Hour) (rows : List ProblemRow) → AreWeighed ranks hours rows [] (rank_count ranks)
+none_weighed ranks hours rows = record {
   all = λ k plan there. absurd (none-some plan there);
   each = λ parts low high. let none : ⊥ = omega (arith, low, high) in absurd none;
 }
 
-pub none-so_far : (ranks : ℕ) (pinned : List ℕ) (rows : List ProblemRow) → IsSoFar ranks pinned rows [] false (rank_count ranks)
-none-so_far ranks pinned rows = record { weighed = none_weighed ranks pinned rows; flag = λ set. absurd (both_ways false refl set) }
+pub none-so_far : (ranks : ℕ) (hours : List Hour) (rows : List ProblemRow) → IsSoFar ranks hours rows [] false (rank_count ranks)
+none-so_far ranks hours rows = record { weighed = none_weighed ranks hours rows; flag = λ set. absurd (both_ways false refl set) }
 
 pub later-count : (first n over next : ℕ) → first ≤ n → next ≡ n + over + 1 → first ≤ next
 later-count first n over next from step = omega (arith, from, step)

@@ -6,6 +6,7 @@ use Rattle.mds_types.specs.declared.problem.ProblemRow.{ProblemRow}
 use Rattle.mds_types.specs.Problem as problem
 use Rattle.mds_types.specs.RankSet.{has_rank}
 use Rattle.mds_types.specs.Sums.{sum_below}
+use Rattle.ceph_plan.specs.declared.hours.Hour.{Hour}
 use Rattle.ceph_plan.specs.Asked.{ArePinRows, own_at}
 use Rattle.ceph_plan.specs.Packing.{packed_rank}
 use Rattle.ceph_plan.specs.Placements.{IsPlacement}
@@ -32,9 +33,9 @@ AreLeft rows own part rank n =
 
 -- a plan of these rows with what it costs: what is asked of each row, how many pins of ours put the rows there, the
 -- heat that moves, and whether all that is to be left is
-pub record IsCandidate (ranks : ℕ) (pinned : List ℕ) (rows : List ProblemRow) (own : List OwnPins) (rests : Bool)
+pub record IsCandidate (ranks : ℕ) (hours : List Hour) (rows : List ProblemRow) (own : List OwnPins) (rests : Bool)
     (one : Candidate) : Type 0 where
-  pub placed : IsPlacement ranks pinned rows one.plan
+  pub placed : IsPlacement ranks hours rows one.plan
   pub asked : ArePinRows rows one.plan.part.items one.plan.packing.rank.items own (length rows) rests one.rows.items
   pub rows_are : AreRows one.rows.items
   pub pins : List Pin
@@ -71,21 +72,21 @@ ColdStays ranks rows part rank n =
     → HasLeaving rows part rank (length rows) (slice_index part i)
 
 -- plans of these rows: the first is the present placement, and in the others what is cold stays
-pub record AreBegun (ranks : ℕ) (pinned : List ℕ) (rows : List ProblemRow) (own : List OwnPins) (rests : Bool)
+pub record AreBegun (ranks : ℕ) (hours : List Hour) (rows : List ProblemRow) (own : List OwnPins) (rests : Bool)
     (candidates : List Candidate) : Type 0 where
   pub each : (v : ℕ) (one : Candidate) → slice_get candidates v ≡ Some one
-      → IsCandidate ranks pinned rows own rests one
+      → IsCandidate ranks hours rows own rests one
   pub present : (one : Candidate) × (slice_get candidates 0 ≡ Some one) × IsPresent ranks rows one.plan
   pub cold : (v : ℕ) (one : Candidate) → 0 < v → slice_get candidates v ≡ Some one
       → ColdStays ranks rows one.plan.part.items one.plan.packing.rank.items (length rows)
 
 -- these, and one that is divided anew
-pub record AreCandidates (ranks : ℕ) (pinned : List ℕ) (rows : List ProblemRow) (own : List OwnPins) (rests : Bool)
+pub record AreCandidates (ranks : ℕ) (hours : List Hour) (rows : List ProblemRow) (own : List OwnPins) (rests : Bool)
     (divided : Planned) (candidates : List Candidate) : Type 0 where
   pub first : List Candidate
-  pub begun : AreBegun ranks pinned rows own rests first
+  pub begun : AreBegun ranks hours rows own rests first
   pub last : Candidate
-  pub of : IsCandidate ranks pinned rows own rests last
+  pub of : IsCandidate ranks hours rows own rests last
   pub anew : last.plan ≡ divided
   pub are : candidates ≡ first ++ last ∷ []
 

@@ -6,6 +6,7 @@ use Rattle.mds_types.specs.declared.problem.ProblemRow.{ProblemRow}
 use Rattle.mds_types.specs.Problem.{heat_at}
 use Rattle.mds_types.specs.RankSet.{rank_count}
 use Rattle.mds_types.specs.Sums.{sum_below}
+use Rattle.ceph_plan.specs.declared.hours.Hour.{Hour}
 use Rattle.ceph_plan.specs.declared.choice.PartCount.{PartCount}
 use Rattle.ceph_plan.specs.declared.choice.PartCount.TheVariants.{AtMost, Auto}
 use Rattle.ceph_plan.specs.declared.choice.Wanted.{Wanted}
@@ -90,67 +91,67 @@ abbrev pub total_of_rows : List ProblemRow → ℕ
 total_of_rows rows = sum_below (length rows) (heat_at rows)
 
 -- one of the divisions is into at most `parts` parts, with rows capped at `cap`
-pub record HasDivision (ranks : ℕ) (pinned : List ℕ) (rows : List ProblemRow) (divisions : List PackedDivision)
+pub record HasDivision (ranks : ℕ) (hours : List Hour) (rows : List ProblemRow) (divisions : List PackedDivision)
     (parts cap : ℕ) : Type 0 where
   pub k : ℕ
   pub divided : PackedDivision
   pub there : slice_get divisions k ≡ Some divided
-  pub of : IsDivided ranks pinned rows parts cap divided
+  pub of : IsDivided ranks hours rows parts cap divided
 
 -- one of the divisions is into fewer parts, and one row is as hot as its hottest part: more parts change nothing
-pub record HasHeavyDivision (ranks : ℕ) (pinned : List ℕ) (rows : List ProblemRow) (divisions : List PackedDivision)
+pub record HasHeavyDivision (ranks : ℕ) (hours : List Hour) (rows : List ProblemRow) (divisions : List PackedDivision)
     (parts : ℕ) : Type 0 where
   pub fewer : ℕ
   pub less : fewer < parts
   pub k : ℕ
   pub divided : PackedDivision
   pub there : slice_get divisions k ≡ Some divided
-  pub of : IsDivided ranks pinned rows fewer no_cap divided
+  pub of : IsDivided ranks hours rows fewer no_cap divided
   pub heavy : divided.is_heavy ≡ true
 
 -- a number of parts is weighed, or one below it with no more than the gap between. Where one row was as hot as the
 -- hottest part before, rows are capped at a fair share
-pub record IsWeighed (ranks : ℕ) (pinned : List ℕ) (rows : List ProblemRow) (divisions : List PackedDivision)
+pub record IsWeighed (ranks : ℕ) (hours : List Hour) (rows : List ProblemRow) (divisions : List PackedDivision)
     (parts : ℕ) : Type 0 where
   pub tried : ℕ
   pub low : tried ≤ parts
   pub near : parts ≤ tried + gap tried
-  pub of : HasDivision ranks pinned rows divisions tried no_cap
-      ⊎ (HasHeavyDivision ranks pinned rows divisions tried
-      × HasDivision ranks pinned rows divisions tried (fair_share (total_of_rows rows) tried))
+  pub of : HasDivision ranks hours rows divisions tried no_cap
+      ⊎ (HasHeavyDivision ranks hours rows divisions tried
+      × HasDivision ranks hours rows divisions tried (fair_share (total_of_rows rows) tried))
 
 -- each is a division of the rows
-abbrev pub AreDivisions : ℕ → List ℕ → List ProblemRow → List PackedDivision → Type 0
-AreDivisions ranks pinned rows divisions =
+abbrev pub AreDivisions : ℕ → List Hour → List ProblemRow → List PackedDivision → Type 0
+AreDivisions ranks hours rows divisions =
     (k : ℕ) (divided : PackedDivision) → slice_get divisions k ≡ Some divided
-    → (parts : ℕ) × (cap : ℕ) × IsDivided ranks pinned rows parts cap divided
+    → (parts : ℕ) × (cap : ℕ) × IsDivided ranks hours rows parts cap divided
 
 -- every number of parts below n, from that of the ranks on, is weighed
-pub record AreWeighed (ranks : ℕ) (pinned : List ℕ) (rows : List ProblemRow) (divisions : List PackedDivision)
+pub record AreWeighed (ranks : ℕ) (hours : List Hour) (rows : List ProblemRow) (divisions : List PackedDivision)
     (n : ℕ) : Type 0 where
-  pub all : AreDivisions ranks pinned rows divisions
-  pub each : (parts : ℕ) → rank_count ranks ≤ parts → parts < n → IsWeighed ranks pinned rows divisions parts
+  pub all : AreDivisions ranks hours rows divisions
+  pub each : (parts : ℕ) → rank_count ranks ≤ parts → parts < n → IsWeighed ranks hours rows divisions parts
 
 -- there is one division, into at most `parts` parts
-pub record IsDividedOnce (ranks : ℕ) (pinned : List ℕ) (rows : List ProblemRow) (parts : ℕ)
+pub record IsDividedOnce (ranks : ℕ) (hours : List Hour) (rows : List ProblemRow) (parts : ℕ)
     (divisions : List PackedDivision) : Type 0 where
   pub divided : PackedDivision
   pub only : divisions ≡ divided ∷ []
-  pub of : IsDivided ranks pinned rows parts no_cap divided
+  pub of : IsDivided ranks hours rows parts no_cap divided
 
 -- the divisions that are tried: into each number of parts up to the most, or into the number that is asked for
-abbrev pub AreTried : ℕ → List ℕ → List ProblemRow → PartCount → List PackedDivision → Type 0
-AreTried ranks pinned rows (Auto most) divisions =
-    AreWeighed ranks pinned rows divisions (max most (rank_count ranks) + 1) × (0 < length divisions)
-AreTried ranks pinned rows (AtMost parts) divisions = IsDividedOnce ranks pinned rows parts divisions
+abbrev pub AreTried : ℕ → List Hour → List ProblemRow → PartCount → List PackedDivision → Type 0
+AreTried ranks hours rows (Auto most) divisions =
+    AreWeighed ranks hours rows divisions (max most (rank_count ranks) + 1) × (0 < length divisions)
+AreTried ranks hours rows (AtMost parts) divisions = IsDividedOnce ranks hours rows parts divisions
 
 -- what is planned: rows that can be, and a plan of them, which is taken of all that are tried
-pub record IsPlanChoice (ranks : ℕ) (pinned : List ℕ) (rows : List ProblemRow) (wanted : Wanted)
+pub record IsPlanChoice (ranks : ℕ) (hours : List Hour) (rows : List ProblemRow) (wanted : Wanted)
     (found : Planned) : Type 0 where
-  pub plannable : IsPlannable ranks pinned rows
-  pub plan : IsPlan ranks pinned rows found
+  pub plannable : IsPlannable ranks hours rows
+  pub plan : IsPlan ranks hours rows found
   pub divisions : List PackedDivision
-  pub tried : AreTried ranks pinned rows wanted.parts divisions
+  pub tried : AreTried ranks hours rows wanted.parts divisions
   pub taken : IsTaken wanted.keep divisions found
 
 -- a load that passes by at most `keep` percent the greatest load of the coolest packing by heat only, of all divisions
@@ -161,7 +162,7 @@ pub record IsLimit (keep : ℕ) (divisions : List PackedDivision) (limit : ℕ) 
   pub is : limit ≡ allowed keep (even_at divisions coolest)
 
 -- what is planned, and the limit that it is within
-pub record IsLimitedChoice (ranks : ℕ) (pinned : List ℕ) (rows : List ProblemRow) (wanted : Wanted) (limit : ℕ)
+pub record IsLimitedChoice (ranks : ℕ) (hours : List Hour) (rows : List ProblemRow) (wanted : Wanted) (limit : ℕ)
     (found : Planned) : Type 0 where
-  pub choice : IsPlanChoice ranks pinned rows wanted found
+  pub choice : IsPlanChoice ranks hours rows wanted found
   pub limit_is : IsLimit wanted.keep choice.divisions limit

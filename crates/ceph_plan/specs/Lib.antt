@@ -3,12 +3,16 @@ pub mod Balance
 pub mod Candidates
 pub mod Changes
 pub mod Choice
+pub mod ChosenHours
 pub mod Holds
+pub mod HourPlans
+pub mod MadeHours
 pub mod Packing
 pub mod Placements
 pub mod Plans
 pub mod Proposals
 pub mod Refusals
 pub mod Rule
+pub mod Shares
 pub mod Words
 pub mod Worth

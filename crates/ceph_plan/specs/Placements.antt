@@ -1,11 +1,12 @@
 -- Plans that are made from a rank for each row: the parts are the largest connected sets of rows that go to one rank.
-use Rattle.std.specs.Prelude.{◌≡◌, ◌==◌, ◌<◌, ◌≤◌, ◌+◌, ℕ, Bool, true, not, List, length, slice_index}
+use Rattle.std.specs.Prelude.{◌≡◌, ◌==◌, ◌<◌, ◌≤◌, ℕ, Bool, true, not, List, length, slice_index}
 use Rattle.mds_types.specs.declared.problem.ProblemRow.{ProblemRow}
 use Rattle.mds_types.specs.Division.{IsDivision}
 use Rattle.mds_types.specs.Problem.{IsForest, parent_at}
 use Rattle.mds_types.specs.RankSet.{has_rank}
 use Rattle.residual_cut.specs.Labels.{IsLabelled}
-use Rattle.ceph_plan.specs.Packing.{IsPacking, heat_to, packed_rank}
+use Rattle.ceph_plan.specs.declared.hours.Hour.{Hour}
+use Rattle.ceph_plan.specs.Packing.{IsPacking, packed_rank}
 use Rattle.ceph_plan.specs.Plans.{moved_inodes}
 use Rattle.ceph_plan.specs.declared.plan.Planned.{Planned}
 
@@ -32,18 +33,13 @@ pub record AreRegions (rows : List ProblemRow) (goals : List ℕ) (n : ℕ) (par
   pub labelled : IsLabelled rows (is_border rows goals) (slice_index part) (length rank) n
   pub ranks : (i : ℕ) → i < n → slice_index rank (slice_index part i) ≡ slice_index goals i
 
--- the loads by what is pinned and the first n rows
-pub record AreLoads (pinned : List ℕ) (rows : List ProblemRow) (goals : List ℕ) (n : ℕ) (loads : List ℕ) : Type 0 where
-  pub size : length loads ≡ 64
-  pub are : (r : ℕ) → r < 64 → slice_index loads r ≡ slice_index pinned r + heat_to rows n (slice_index goals) r
-
 -- each row is in one part, each part is connected and on one rank of the set, the root's on rank 0; loads and moved
 -- inodes are right
-pub record IsPlacement (ranks : ℕ) (pinned : List ℕ) (rows : List ProblemRow) (plan : Planned) : Type 0 where
+pub record IsPlacement (ranks : ℕ) (hours : List Hour) (rows : List ProblemRow) (plan : Planned) : Type 0 where
   pub forest : IsForest rows
   pub size : length plan.part.items ≡ length rows
   pub division : IsDivision rows plan.count (slice_index plan.part.items)
-  pub packing : IsPacking ranks pinned rows plan.part.items plan.count plan.packing
+  pub packing : IsPacking ranks hours rows plan.part.items plan.count plan.packing
   pub moved : plan.moved ≡ moved_inodes rows plan.part.items plan.packing.rank.items (length rows)
 
 -- the plan has each row at this rank

@@ -5,6 +5,7 @@ use Rattle.mds_types.specs.declared.problem.ProblemRow.{ProblemRow}
 use Rattle.mds_types.specs.Division.{IsDivision, IsLeast, IsWithin}
 use Rattle.mds_types.specs.Problem.{IsForest, heat_at, inodes_at, now_at}
 use Rattle.mds_types.specs.Sums.{sum_below}
+use Rattle.ceph_plan.specs.declared.hours.Hour.{Hour}
 use Rattle.ceph_plan.specs.Balance.{IsPackedEvenly}
 use Rattle.ceph_plan.specs.Packing.{IsPacking, packed_rank}
 use Rattle.ceph_plan.specs.declared.packing.Packed.{Packed}
@@ -19,28 +20,28 @@ moved_inodes rows part rank n =
 
 -- each row is in one part, each part is connected and on one rank of the set, the root's on rank 0; loads and moved
 -- inodes are right, and no load is greater than the parts and the packing's `keep` allow
-pub record IsPlan (ranks : ℕ) (pinned : List ℕ) (rows : List ProblemRow) (plan : Planned) : Type 0 where
+pub record IsPlan (ranks : ℕ) (hours : List Hour) (rows : List ProblemRow) (plan : Planned) : Type 0 where
   pub forest : IsForest rows
   pub size : length plan.part.items ≡ length rows
   pub division : IsDivision rows plan.count (slice_index plan.part.items)
-  pub packing : IsPacking ranks pinned rows plan.part.items plan.count plan.packing
-  pub balanced : IsPackedEvenly ranks pinned rows plan.part.items plan.count plan.packing
+  pub packing : IsPacking ranks hours rows plan.part.items plan.count plan.packing
+  pub balanced : IsPackedEvenly ranks hours rows plan.part.items plan.count plan.packing
   pub moved : plan.moved ≡ moved_inodes rows plan.part.items plan.packing.rank.items (length rows)
 
 -- a packing of the parts of rows, and the inodes that it moves
-pub record IsPacked (ranks : ℕ) (pinned : List ℕ) (rows : List ProblemRow) (part : List ℕ) (count even : ℕ)
+pub record IsPacked (ranks : ℕ) (hours : List Hour) (rows : List ProblemRow) (part : List ℕ) (count even : ℕ)
     (packed : Packed) : Type 0 where
-  pub packing : IsPacking ranks pinned rows part count packed.packing
-  pub balanced : IsPackedEvenly ranks pinned rows part count packed.packing
+  pub packing : IsPacking ranks hours rows part count packed.packing
+  pub balanced : IsPackedEvenly ranks hours rows part count packed.packing
   pub even_is : packed.packing.even ≡ even
   pub moved : packed.moved ≡ moved_inodes rows part packed.packing.rank.items (length rows)
 
 -- a packing for each of the tolerances, in their order; for all the packing by heat only has the same greatest load
-pub record ArePackings (ranks : ℕ) (pinned : List ℕ) (rows : List ProblemRow) (part : List ℕ) (count even : ℕ)
+pub record ArePackings (ranks : ℕ) (hours : List Hour) (rows : List ProblemRow) (part : List ℕ) (count even : ℕ)
     (each : List Packed) : Type 0 where
   pub keeps : map (λ (packed : Packed). packed.packing.keep) each ≡ TOLERANCES.now
   pub are : (v : ℕ) (packed : Packed) → slice_get each v ≡ Some packed
-      → IsPacked ranks pinned rows part count even packed
+      → IsPacked ranks hours rows part count even packed
 
 -- the rows, where none counts as hotter than the cap
 abbrev pub capped_row : ℕ → ProblemRow → ProblemRow
@@ -56,12 +57,12 @@ no_cap = 2 ^ 64 - 1
 -- a division into at most `parts` parts, with its packings: its hottest part is as cool as that of any such division,
 -- where no row counts as hotter than the cap. It is heavy where one row is as hot as that part, so that more parts
 -- change nothing
-pub record IsDivided (ranks : ℕ) (pinned : List ℕ) (rows : List ProblemRow) (parts cap : ℕ)
+pub record IsDivided (ranks : ℕ) (hours : List Hour) (rows : List ProblemRow) (parts cap : ℕ)
     (divided : PackedDivision) : Type 0 where
   pub forest : IsForest rows
   pub size : length divided.part.items ≡ length rows
   pub division : IsDivision rows divided.count (slice_index divided.part.items)
-  pub packings : ArePackings ranks pinned rows divided.part.items divided.count divided.packings.even
+  pub packings : ArePackings ranks hours rows divided.part.items divided.count divided.packings.even
       divided.packings.each.items
   pub few : divided.count ≤ parts
   pub greatest : ℕ

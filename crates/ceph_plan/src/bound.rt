@@ -49,7 +49,7 @@ fn least(numbers: &[u64], ranks: RankSet) -> u64
 }
 
 /// The sum of the numbers at the ranks of the set.
-fn total(numbers: &[u64], ranks: RankSet) -> u64
+pub(crate) fn total(numbers: &[u64], ranks: RankSet) -> u64
     requires { IsPinnedHeat numbers.now }
     ensures total { result ≡ total_of ranks (slice_index numbers.now) }
     ensures small { result ≤ 2 ^ 63 }
@@ -97,7 +97,7 @@ fn bound_of(all: u64, hottest: u64, pinned: &[u64], ranks: RankSet) -> u64
 const MOST_HEAT: u64 = 1 << 62;
 
 /// The sum of the heats, as far as it is counted.
-fn sum_of(heats: &[u64]) -> u64
+pub(crate) fn sum_of(heats: &[u64]) -> u64
     ensures { result ≡ min (sum_below (length heats.now) (slice_index heats.now)) (2 ^ 62) }
 {
     let mut sum = 0;

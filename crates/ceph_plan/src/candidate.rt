@@ -125,8 +125,8 @@ pub(crate) fn costed(
     plan: Planned,
 ) -> Result<Candidate, PlanError>
     requires own { length own.now ≡ length of.now.rows.now }
-    requires placed { IsPlacement of.now.ranks of.now.pinned.now of.now.rows.now plan }
-    ensures candidate { IfOk result (IsCandidate of.now.ranks of.now.pinned.now of.now.rows.now own.now
+    requires placed { IsPlacement of.now.ranks of.now.hours.now of.now.rows.now plan }
+    ensures candidate { IfOk result (IsCandidate of.now.ranks of.now.hours.now of.now.rows.now own.now
         rests) }
     ensures plan { IfOk result (λ found. found.plan ≡ plan) }
     ensures refused { IfErr result (IsCandidateRefusal own.now) }
@@ -158,7 +158,7 @@ fn candidate_at(
 ) -> Result<Candidate, PlanError>
     requires own { length own.now ≡ length of.now.rows.now }
     requires goals { AreGoals of.now.ranks (length of.now.rows.now) goals.now }
-    ensures candidate { IfOk result (IsCandidate of.now.ranks of.now.pinned.now of.now.rows.now own.now
+    ensures candidate { IfOk result (IsCandidate of.now.ranks of.now.hours.now of.now.rows.now own.now
         rests) }
     ensures at { IfOk result (λ found. IsPlacementAt of.now.rows.now goals.now found.plan) }
     ensures refused { IfErr result (IsCandidateRefusal own.now) }
@@ -247,7 +247,7 @@ pub(crate) fn begun(
     limit: u64,
 ) -> Result<Vec<Candidate>, PlanError>
     requires own { length own.now ≡ length of.now.rows.now }
-    ensures begun { IfOk result (λ found. AreBegun of.now.ranks of.now.pinned.now of.now.rows.now own.now
+    ensures begun { IfOk result (λ found. AreBegun of.now.ranks of.now.hours.now of.now.rows.now own.now
         wanted.rests found.items) }
     ensures refused { IfErr result (IsCandidateRefusal own.now) }
 {
@@ -262,6 +262,7 @@ pub(crate) fn begun(
     for first in WAYS {
         let ground = Ground {
             rows,
+            hours: of.hours,
             ranks,
             limit,
             first: *first,
@@ -269,7 +270,7 @@ pub(crate) fn begun(
             most_inodes,
             own,
         };
-        let moved = moved_from(alloc, &ground, of.pinned, &present)?;
+        let moved = moved_from(alloc, &ground, &present)?;
         let goals = usable_goals(alloc, rows, &moved, ranks)?;
         let one = candidate_at(alloc, of, own, wanted.rests, &goals)?;
         if leaves_cold(alloc, rows, &one.plan.part, &one.plan.packing.rank, ranks)? {

@@ -6,10 +6,12 @@ ghost use Rattle.ceph_plan.specs.Balance.{allowed};
 ghost use Rattle.ceph_plan.specs.Choice.{AreCool, AreTried, AreWeighed, IsChosen, IsDividedOnce, IsFewer, IsPlace};
 ghost use Rattle.ceph_plan.specs.Choice.{IsLimitedChoice, IsPlanChoice, IsTaken, even_at, gap, greatest_in, moved_in};
 ghost use Rattle.ceph_plan.specs.Choice.{packings_at, part_count_at, size_of};
+ghost use Rattle.ceph_plan.specs.Packing.{HaveHeats};
 ghost use Rattle.ceph_plan.specs.Refusals.{IsCountRefusal, IsPartsRefusal, IsPlanRefusal};
 
 use crate::bound::total_heat;
-use crate::packing::{Packed, are_pinned};
+use crate::hours::Hour;
+use crate::packing::{Packed, have_pinned};
 use crate::plan::{PackedDivision, Plannable, Planned, Size, divide};
 use crate::plan_error::PlanError;
 use mds_types::{Problem, ProblemError, ProblemRow, Rank, RankSet};
@@ -182,7 +184,7 @@ fn next_count(parts: u32) -> u32
 /// A division into each number of parts that is tried, from that of the ranks to the most, as results don't fall
 /// steadily with the number.
 fn weighed(alloc: Global, of: &Plannable<'_>, most: u16) -> Result<Vec<PackedDivision>, PlanError>
-    ensures weighed { IfOk result (λ divisions. AreWeighed of.now.ranks of.now.pinned.now of.now.rows.now
+    ensures weighed { IfOk result (λ divisions. AreWeighed of.now.ranks of.now.hours.now of.now.rows.now
         divisions.items (max most (rank_count of.now.ranks) + 1)) }
     ensures some { IfOk result (λ divisions. 0 < length divisions.items) }
     ensures refused { IfErr result (λ error. error ≡ PlanError.Memory) }
@@ -208,7 +210,7 @@ fn divided_once(
     of: &Plannable<'_>,
     parts: u16,
 ) -> Result<Vec<PackedDivision>, PlanError>
-    ensures divided { IfOk result (λ divisions. IsDividedOnce of.now.ranks of.now.pinned.now of.now.rows.now parts
+    ensures divided { IfOk result (λ divisions. IsDividedOnce of.now.ranks of.now.hours.now of.now.rows.now parts
         divisions.items) }
     ensures refused { IfErr result (IsPartsRefusal parts) }
 {
@@ -228,7 +230,7 @@ fn tried(
     of: &Plannable<'_>,
     parts: PartCount,
 ) -> Result<Vec<PackedDivision>, PlanError>
-    ensures tried { IfOk result (λ divisions. AreTried of.now.ranks of.now.pinned.now of.now.rows.now parts
+    ensures tried { IfOk result (λ divisions. AreTried of.now.ranks of.now.hours.now of.now.rows.now parts
         divisions.items) }
     ensures refused { IfErr result (IsCountRefusal parts) }
 {
@@ -252,12 +254,13 @@ pub(crate) fn choose_within(
     alloc: Global,
     rows: &[ProblemRow],
     wanted: Wanted,
-    pinned: &[u64],
+    hours: &[Hour],
     ranks: RankSet,
 ) -> Result<Limited, PlanError>
-    ensures chosen { IfOk result (λ found. IsLimitedChoice ranks pinned.now rows.now wanted found.limit found.plan) }
+    requires heats { HaveHeats rows.now hours.now }
+    ensures chosen { IfOk result (λ found. IsLimitedChoice ranks hours.now rows.now wanted found.limit found.plan) }
     // it is refused for what is wrong first
-    ensures refused { IfErr result (IsPlanRefusal ranks pinned.now rows.now wanted) }
+    ensures refused { IfErr result (IsPlanRefusal ranks hours.now rows.now wanted) }
 {
     if !ranks.has(Rank::default()) {
         return Err(PlanError::NoRankZero);
@@ -265,7 +268,7 @@ pub(crate) fn choose_within(
     if rows.is_empty() {
         return Err(PlanError::NoDirectory);
     }
-    if !are_pinned(pinned) {
+    if !have_pinned(hours) {
         return Err(PlanError::PinnedTooHot);
     }
     let problem = match Problem::new(rows.to_vec(alloc)?, ranks) {
@@ -273,11 +276,7 @@ pub(crate) fn choose_within(
         Err((error, _)) => return Err(PlanError::Problem(error)),
     };
     let rows = problem.rows();
-    let of = Plannable {
-        rows,
-        pinned,
-        ranks,
-    };
+    let of = Plannable { rows, hours, ranks };
     let divisions = tried(alloc, &of, wanted.parts)?;
     let limit = limit_of(&divisions, coolest(&divisions), wanted.keep);
     let plan = taken(divisions, wanted.keep);
@@ -286,18 +285,19 @@ pub(crate) fn choose_within(
 
 /// Which rank of the set each row is to be at, in connected parts, several a rank.
 ///
-/// `pinned[r]` is the heat that is held at rank r. The root's part goes to rank 0, as Ceph never moves the root:
-/// without rank 0 there is no plan.
+/// The heat of a row is that of all hours together, or of the only one. The root's part goes to rank 0, as Ceph never
+/// moves the root: without rank 0 there is no plan.
 pub fn choose_plan(
     alloc: Global,
     rows: &[ProblemRow],
     wanted: Wanted,
-    pinned: &[u64],
+    hours: &[Hour],
     ranks: RankSet,
 ) -> Result<Planned, PlanError>
-    ensures chosen { IfOk result (IsPlanChoice ranks pinned.now rows.now wanted) }
+    requires heats { HaveHeats rows.now hours.now }
+    ensures chosen { IfOk result (IsPlanChoice ranks hours.now rows.now wanted) }
     // it is refused for what is wrong first
-    ensures refused { IfErr result (IsPlanRefusal ranks pinned.now rows.now wanted) }
+    ensures refused { IfErr result (IsPlanRefusal ranks hours.now rows.now wanted) }
 {
-    Ok(choose_within(alloc, rows, wanted, pinned, ranks)?.plan)
+    Ok(choose_within(alloc, rows, wanted, hours, ranks)?.plan)
 }

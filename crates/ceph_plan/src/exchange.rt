@@ -3,12 +3,12 @@ ghost use Rattle.std.specs.Prelude.{◌≡◌, ◌<◌, ℕ, List, length, IfOk}
 ghost use Rattle.ceph_plan.specs.Balance.{HaveRanks};
 
 use crate::bound::has_number;
-use crate::loads::loads;
+use crate::loads::{greatest_loads, loads};
 use crate::order::PartHeat;
 use crate::rank_choice::PartAmounts;
+use crate::swaps::{Ground, Swap, best_swap, hottest_hour, load_in, parts_at};
 use mds_types::{Rank, RankSet};
 use std::alloc::{AllocError, Global};
-use std::cmp::Reverse;
 
 /// At most this many exchanges are tried.
 const MOST_EXCHANGES: u32 = 64;
@@ -28,32 +28,6 @@ fn ends(loads: &[u64], ranks: RankSet) -> (usize, usize)
         }
     }
     (most, least)
-}
-
-/// The parts at a rank but the root's, the hottest last. The first is none: it has the root's part and no heat.
-fn parts_at(
-    alloc: Global,
-    parts: &PartAmounts<'_>,
-    rank: &[Rank],
-    at: usize,
-) -> Result<Vec<PartHeat>, AllocError>
-    requires ranks { length rank.now ≡ length parts.now.heats.now }
-{
-    let none = PartHeat {
-        heat: 0,
-        part: Reverse(parts.root),
-    };
-    let mut found = vec![in alloc; none; 1]?;
-    for part in parts.order {
-        let place = *part as usize;
-        if usize::from(rank[place].number()) == at && *part != parts.root {
-            found.push(PartHeat {
-                heat: parts.heats[place],
-                part: Reverse(*part),
-            })?;
-        }
-    }
-    Ok(found)
 }
 
 /// One of the first parts and one of the others, so that the first is hotter by as nearly as possible `wanted`.
@@ -92,26 +66,58 @@ fn send(rank: &mut [Rank], root: u32, ranks: RankSet, part: u32, number: usize)
     }
 }
 
-/// Sends a part of the most loaded rank to the least loaded one, where a colder one may come back for it, so that both
-/// are loaded less than the first was. Whether there is one.
+/// Of one hour, a part of the most loaded rank and a colder one of the least loaded rank, so that both are loaded less
+/// than the first was.
+fn closest_swap(
+    alloc: Global,
+    ground: &Ground<'_>,
+    rank: &[Rank],
+    least: usize,
+) -> Result<Option<Swap>, AllocError> {
+    let here = load_in(ground.table, 0, ground.most);
+    let gap = here.saturating_sub(load_in(ground.table, 0, least));
+    let hot = parts_at(alloc, ground.parts, rank, ground.most, 0)?;
+    let cold = parts_at(alloc, ground.parts, rank, least, 0)?;
+    if let Some((one, other)) = closest(&hot, &cold, gap / 2) {
+        let change = one.heat.saturating_sub(other.heat);
+        if change > 0 && change < gap {
+            return Ok(Some(Swap {
+                one: one.part.0,
+                other: other.part.0,
+                to: least,
+                greatest: here,
+            }));
+        }
+    }
+    Ok(None)
+}
+
+/// Sends a part of the most loaded rank to another one, where a part may come back for it, so that both are loaded less
+/// than the first was. Whether there is one.
 fn exchange(alloc: Global, parts: &PartAmounts<'_>, rank: &mut [Rank]) -> Result<bool, AllocError>
     requires ranks { HaveRanks parts.now.ranks parts.now.heats.now parts.now.root rank.old }
     ensures { HaveRanks parts.now.ranks parts.now.heats.now parts.now.root rank.new }
 {
-    let loads = loads(alloc, parts, rank)?;
-    let (most, least) = ends(&loads, parts.ranks);
-    let gap = loads[most].saturating_sub(loads[least]);
-    let hot = parts_at(alloc, parts, rank, most)?;
-    let cold = parts_at(alloc, parts, rank, least)?;
-    if let Some((one, other)) = closest(&hot, &cold, gap / 2) {
-        let change = one.heat.saturating_sub(other.heat);
-        if change > 0 && change < gap {
-            send(rank, parts.root, parts.ranks, one.part.0, least);
-            send(rank, parts.root, parts.ranks, other.part.0, most);
-            return Ok(true);
-        }
-    }
-    Ok(false)
+    let hours = parts.hours.len();
+    let table = loads(alloc, parts.hours, rank)?;
+    let (most, least) = ends(&greatest_loads(alloc, &table, hours)?, parts.ranks);
+    let ground = Ground {
+        parts,
+        table: &table,
+        most,
+        hour: hottest_hour(&table, hours, most),
+    };
+    let swap = if hours == 1 {
+        closest_swap(alloc, &ground, rank, least)?
+    } else {
+        best_swap(alloc, &ground, rank)?
+    };
+    let Some(swap) = swap else {
+        return Ok(false);
+    };
+    send(rank, parts.root, parts.ranks, swap.one, swap.to);
+    send(rank, parts.root, parts.ranks, swap.other, most);
+    Ok(true)
 }
 
 /// The ranks of the parts after exchanges, as long as there are any.

@@ -6,6 +6,7 @@
 ghost use Rattle.std.specs.Prelude.{◌≡◌, length, IfOk};
 
 use crate::bound::has_number;
+use crate::hours::Hour;
 use crate::order::PartHeat;
 use crate::proposal::OwnPins;
 use mds_types::limits::DIR_LIMIT;
@@ -27,6 +28,8 @@ pub(crate) enum First {
 pub(crate) struct Ground<'a> {
     /// The rows.
     pub rows: &'a [ProblemRow],
+    /// What is counted of each hour.
+    pub hours: &'a [Hour],
     /// The ranks that may have a part.
     pub ranks: RankSet,
     /// No load is to be above this.
@@ -57,6 +60,9 @@ const MOST_CLIMBED: u32 = 2000;
 
 /// No rank.
 const NONE: u8 = 64;
+
+/// How many ranks there can be.
+const RANKS: usize = 64;
 
 /// The number at a place, and 0 past the last one.
 fn read(numbers: &[u64], at: usize) -> u64 {
@@ -112,13 +118,14 @@ fn add_up(rows: &[ProblemRow], goals: &[Rank], numbers: &mut [u64]) {
     }
 }
 
-/// The heat of each row with all that is below it at the same rank.
-fn heats_below(alloc: Global, rows: &[ProblemRow], goals: &[Rank]) -> Result<Vec<u64>, AllocError> {
-    let mut found = Vec::with_capacity(alloc, rows.len())?;
-    for row in rows {
-        found.push(row.heat)?;
+/// The heat of each row with all that is below it at the same rank, hour by hour.
+fn heats_below(alloc: Global, ground: &Ground<'_>, goals: &[Rank]) -> Result<Vec<u64>, AllocError> {
+    let mut found = Vec::new(alloc);
+    for hour in ground.hours {
+        let mut heats = hour.heats.to_vec(alloc)?;
+        add_up(ground.rows, goals, &mut heats);
+        found.extend_from_slice(&heats)?;
     }
-    add_up(rows, goals, &mut found);
     Ok(found)
 }
 
@@ -139,32 +146,88 @@ fn inodes_below(
 /// What the ranks have, and what moves with each row.
 #[derive(Drop)]
 struct Sums {
-    /// The load of each rank.
+    /// The load of each rank, 64 numbers an hour.
     loads: Vec<u64>,
-    /// The heat of each row with all that is below it at the same rank.
+    /// The heat of each row with all that is below it at the same rank, hour by hour.
     heats: Vec<u64>,
     /// Their inodes.
     inodes: Vec<u64>,
+    /// How many hours there are.
+    hours: usize,
+    /// How many rows there are.
+    rows: usize,
+}
+
+/// The place of a rank's load, or of a row's heat, where so many are of each hour.
+fn place(hour: usize, each: usize, at: usize) -> usize {
+    hour.saturating_mul(each).saturating_add(at)
+}
+
+/// The load of a rank in an hour.
+fn load_in(sums: &Sums, hour: usize, rank: usize) -> u64 {
+    read(&sums.loads, place(hour, RANKS, rank))
+}
+
+/// The heat that moves with a row in an hour.
+fn heat_in(sums: &Sums, hour: usize, row: usize) -> u64 {
+    read(&sums.heats, place(hour, sums.rows, row))
+}
+
+/// The load of each rank in an hour, where each row goes to this rank.
+fn hour_loads(alloc: Global, hour: &Hour, goals: &[Rank]) -> Result<Vec<u64>, AllocError> {
+    let mut loads = hour.pinned.to_vec(alloc)?;
+    for (i, heat) in hour.heats.iter().enumerate() {
+        let at = usize::from(rank_at(goals, i));
+        let load = read(&loads, at).saturating_add(*heat);
+        write(&mut loads, at, load);
+    }
+    Ok(loads)
 }
 
 /// The loads and sums where each row goes to this rank.
-fn sums_of(
-    alloc: Global,
-    ground: &Ground<'_>,
-    goals: &[Rank],
-    pinned: &[u64],
-) -> Result<Sums, AllocError> {
-    let mut loads = pinned.to_vec(alloc)?;
-    for (i, row) in ground.rows.iter().enumerate() {
-        let at = usize::from(rank_at(goals, i));
-        let load = read(&loads, at).saturating_add(row.heat);
-        write(&mut loads, at, load);
+fn sums_of(alloc: Global, ground: &Ground<'_>, goals: &[Rank]) -> Result<Sums, AllocError> {
+    let mut loads = Vec::new(alloc);
+    for hour in ground.hours {
+        let one = hour_loads(alloc, hour, goals)?;
+        loads.extend_from_slice(&one)?;
     }
     Ok(Sums {
         loads,
-        heats: heats_below(alloc, ground.rows, goals)?,
+        heats: heats_below(alloc, ground, goals)?,
         inodes: inodes_below(alloc, ground.rows, goals)?,
+        hours: ground.hours.len(),
+        rows: ground.rows.len(),
     })
+}
+
+/// The first hour in which a rank has its greatest load.
+fn hottest_hour(sums: &Sums, rank: usize) -> usize {
+    let mut best = 0;
+    for hour in 1..sums.hours {
+        if load_in(sums, hour, rank) > load_in(sums, best, rank) {
+            best = hour;
+        }
+    }
+    best
+}
+
+/// The first hour in which each rank has its greatest load.
+fn hottest_hours(alloc: Global, sums: &Sums) -> Result<Vec<usize>, AllocError> {
+    let mut found = Vec::with_capacity(alloc, RANKS)?;
+    for rank in 0..RANKS {
+        found.push(hottest_hour(sums, rank))?;
+    }
+    Ok(found)
+}
+
+/// The load of a rank with a row, in the hour in which it is greatest.
+fn load_with(sums: &Sums, rank: usize, row: usize) -> u64 {
+    let mut most = 0;
+    for hour in 0..sums.hours {
+        let load = load_in(sums, hour, rank).saturating_add(heat_in(sums, hour, row));
+        most = load.max(most);
+    }
+    most
 }
 
 /// By what a row goes first: the greater first.
@@ -191,19 +254,24 @@ fn has_pin(own: &[OwnPins], row: usize) -> bool {
     }
 }
 
-/// The rows with heat that may leave ranks above the limit, those that go first last.
+/// The rows that may leave ranks above the limit, those that go first last. They have heat when their rank has most.
 fn leaving(
     alloc: Global,
     ground: &Ground<'_>,
     goals: &[Rank],
     sums: &Sums,
 ) -> Result<Vec<PartHeat>, AllocError> {
+    let hottest = hottest_hours(alloc, sums)?;
     let mut found = Vec::new(alloc);
     for row in 1..ground.rows.len() {
-        let load = read(&sums.loads, usize::from(rank_at(goals, row)));
-        let heat = read(&sums.heats, row);
+        let from = usize::from(rank_at(goals, row));
+        let hour = match hottest.get(from) {
+            Some(hour) => *hour,
+            None => 0,
+        };
+        let heat = heat_in(sums, hour, row);
         let may_go = row < DIR_LIMIT as usize && !is_left(ground.own, row);
-        if may_go && load > ground.limit && heat > 0 {
+        if may_go && load_in(sums, hour, from) > ground.limit && heat > 0 {
             let heat = weight(ground.first, heat, read(&sums.inodes, row));
             found.push(PartHeat {
                 heat,
@@ -215,13 +283,17 @@ fn leaving(
     Ok(found)
 }
 
-/// The number of the least loaded rank of the set.
-fn coolest(loads: &[u64], ranks: RankSet) -> u8 {
+/// The number of the rank of the set that is least loaded with a row.
+fn coolest(sums: &Sums, ranks: RankSet, row: usize) -> u8 {
     let mut best = 0;
+    let mut least = load_with(sums, 0, row);
     for number in 1..64u8 {
-        let is_cooler = read(loads, usize::from(number)) < read(loads, usize::from(best));
-        if is_cooler && has_number(ranks, number) {
-            best = number;
+        if has_number(ranks, number) {
+            let load = load_with(sums, usize::from(number), row);
+            if load < least {
+                best = number;
+                least = load;
+            }
         }
     }
     best
@@ -242,39 +314,56 @@ fn is_moving(ground: &Ground<'_>, goals: &[Rank], to: &[u8], row: usize) -> bool
     true
 }
 
+/// Takes what moves with a row out of the sums of one above it.
+fn take_from(sums: &mut Sums, up: usize, row: usize) {
+    for hour in 0..sums.hours {
+        let rest = heat_in(sums, hour, up).saturating_sub(heat_in(sums, hour, row));
+        let at = place(hour, sums.rows, up);
+        write(&mut sums.heats, at, rest);
+    }
+    let rest = read(&sums.inodes, up).saturating_sub(read(&sums.inodes, row));
+    write(&mut sums.inodes, up, rest);
+}
+
 /// Takes what moves with a row out of the sums of the rows above it.
 fn take_out(ground: &Ground<'_>, goals: &[Rank], sums: &mut Sums, row: usize) {
-    let (heat, inodes) = (read(&sums.heats, row), read(&sums.inodes, row));
     let mut at = row;
     for _ in 0..MOST_CLIMBED {
         match above(ground.rows, goals, at) {
             Some(up) => at = up,
             None => return,
         }
-        let rest = read(&sums.heats, at).saturating_sub(heat);
-        write(&mut sums.heats, at, rest);
-        let rest = read(&sums.inodes, at).saturating_sub(inodes);
-        write(&mut sums.inodes, at, rest);
+        take_from(sums, at, row);
     }
 }
 
-/// Notes that a row goes to the least loaded rank, if it helps. Whether it does.
+/// Takes what moves with a row from one rank to another.
+fn reload(sums: &mut Sums, row: usize, from: usize, to: usize) {
+    for hour in 0..sums.hours {
+        let heat = heat_in(sums, hour, row);
+        let there = load_in(sums, hour, to).saturating_add(heat);
+        write(&mut sums.loads, place(hour, RANKS, to), there);
+        let here = load_in(sums, hour, from).saturating_sub(heat);
+        write(&mut sums.loads, place(hour, RANKS, from), here);
+    }
+}
+
+/// Notes that a row goes to the rank that is least loaded with it, if it helps. Whether it does.
 fn send(ground: &Ground<'_>, goals: &[Rank], sums: &mut Sums, to: &mut [u8], row: usize) -> bool {
     let from = usize::from(rank_at(goals, row));
-    let (here, heat) = (read(&sums.loads, from), read(&sums.heats, row));
-    if here <= ground.limit || heat == 0 {
+    let hour = hottest_hour(sums, from);
+    if load_in(sums, hour, from) <= ground.limit || heat_in(sums, hour, row) == 0 {
         return false;
     }
-    let least = coolest(&sums.loads, ground.ranks);
-    let there = read(&sums.loads, usize::from(least)).saturating_add(heat);
+    let least = coolest(sums, ground.ranks, row);
+    let there = load_with(sums, usize::from(least), row);
     if there > ground.limit || is_moving(ground, goals, to, row) {
         return false;
     }
     if row < to.len() {
         to[row] = least;
     }
-    write(&mut sums.loads, usize::from(least), there);
-    write(&mut sums.loads, from, here.saturating_sub(heat));
+    reload(sums, row, from, usize::from(least));
     take_out(ground, goals, sums, row);
     true
 }
@@ -302,11 +391,10 @@ fn settle(rows: &[ProblemRow], goals: &mut [Rank], to: &mut [u8]) {
 fn moved_once(
     alloc: Global,
     ground: &Ground<'_>,
-    pinned: &[u64],
     goals: &mut [Rank],
     mut left: Left,
 ) -> Result<Left, AllocError> {
-    let mut sums = sums_of(alloc, ground, goals, pinned)?;
+    let mut sums = sums_of(alloc, ground, goals)?;
     let order = leaving(alloc, ground, goals, &sums)?;
     let mut to = vec![in alloc; NONE; ground.rows.len()]?;
     for one in order.iter().rev() {
@@ -328,7 +416,6 @@ fn moved_once(
 pub(crate) fn moved_from(
     alloc: Global,
     ground: &Ground<'_>,
-    pinned: &[u64],
     start: &[Rank],
 ) -> Result<Vec<Rank>, AllocError>
     ensures { IfOk result (λ found. length found.items ≡ length start.now) }
@@ -340,7 +427,7 @@ pub(crate) fn moved_from(
         inodes: ground.most_inodes,
     };
     for _ in 0..MOST_ROUNDS {
-        let rest = moved_once(alloc, ground, pinned, &mut goals, left)?;
+        let rest = moved_once(alloc, ground, &mut goals, left)?;
         if rest.went == left.went {
             return Ok(goals);
         }

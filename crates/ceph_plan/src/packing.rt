@@ -1,13 +1,16 @@
 //! A packing, with what it loads on each rank.
 ghost use Rattle.std.specs.Prelude.{◌≡◌, ◌<◌, ◌≤◌, ◌↔◌, ℕ, All, length, slice_index, IfOk, IsTrue};
 ghost use Rattle.ceph_plan.specs.Balance.{IsEvenPacking, IsPartsPacking, greatest_by};
-ghost use Rattle.ceph_plan.specs.Packing.{HaveParts, IsPinnedHeat};
+ghost use Rattle.ceph_plan.specs.Packing.{ArePinned, HaveHeats, HaveParts, IsPinnedHeat};
 ghost use Rattle.ceph_plan.specs.Plans.{ArePackings, moved_inodes};
 ghost use Rattle.ceph_plan.specs.Refusals.{IsPlannable};
 
-use crate::loads::loads;
+use crate::hours::Hour;
+use crate::loads::worst_loads;
 use crate::order::by_heat;
-use crate::rank_choice::{Choice, PartAmounts, even_choice, kept_choice, part_heats, part_inodes};
+use crate::rank_choice::{
+    Choice, PartAmounts, even_choice, greatest_heats, kept_choice, part_hours, part_inodes,
+};
 use mds_types::{ProblemRow, Rank, RankSet};
 use std::alloc::{AllocError, Global};
 
@@ -16,7 +19,7 @@ use std::alloc::{AllocError, Global};
 pub struct Packing {
     /// `rank[p]` is the rank of part p.
     pub rank: Vec<Rank>,
-    /// `load[r]` is the heat at rank r: what is pinned there, and its parts'.
+    /// `load[r]` is the heat at rank r: what is pinned there, and its parts', in the hour in which that is most.
     pub load: Vec<u64>,
     /// The greatest load of a rank of the set.
     pub greatest: u64,
@@ -83,17 +86,17 @@ fn packing_of(
     even: &Choice,
     keep: u8,
 ) -> Result<Packing, AllocError>
-    requires even { IsEvenPacking parts.now.ranks parts.now.pinned.now parts.now.heats.now parts.now.root
+    requires even { IsEvenPacking parts.now.ranks parts.now.hours.now parts.now.heats.now parts.now.root
         even.now.rank.items }
     requires greatest { even.now.greatest
-        ≡ greatest_by parts.now.ranks parts.now.pinned.now parts.now.heats.now even.now.rank.items }
-    ensures parts { IfOk result (IsPartsPacking parts.now.ranks parts.now.pinned.now parts.now.heats.now
+        ≡ greatest_by parts.now.ranks parts.now.hours.now parts.now.heats.now even.now.rank.items }
+    ensures parts { IfOk result (IsPartsPacking parts.now.ranks parts.now.hours.now parts.now.heats.now
         parts.now.inodes.now parts.now.root even.now.rank.items) }
     ensures keep { IfOk result (λ packing. packing.keep ≡ keep) }
     ensures even { IfOk result (λ packing. packing.even ≡ even.now.greatest) }
 {
     let choice = kept_choice(alloc, parts, even, keep)?;
-    let load = loads(alloc, parts, &choice.rank)?;
+    let load = worst_loads(alloc, parts.hours, &choice.rank)?;
     Ok(Packing {
         rank: choice.rank,
         load,
@@ -103,8 +106,20 @@ fn packing_of(
     })
 }
 
-/// Packs the parts of rows on ranks, once for each of `TOLERANCES`. `part[i]` is the part of row i, and `pinned[r]` the
-/// heat of what is pinned to rank r. The root's part goes to rank 0.
+/// Whether what is pinned in each hour can be counted.
+pub(crate) fn have_pinned(hours: &[Hour]) -> bool
+    ensures { IsTrue result ↔ ArePinned hours.now }
+{
+    for hour in hours {
+        if !are_pinned(&hour.pinned) {
+            return false;
+        }
+    }
+    true
+}
+
+/// Packs the parts of rows on ranks, once for each of `TOLERANCES`. `part[i]` is the part of row i. The root's part
+/// goes to rank 0.
 ///
 /// Another part stays at the rank that has most of its inodes, unless the load there would pass, by more than the
 /// tolerance, the greatest load of the packing by heat only.
@@ -113,24 +128,26 @@ pub fn pack(
     rows: &[ProblemRow],
     part: &[u32],
     count: u32,
-    pinned: &[u64],
+    hours: &[Hour],
     ranks: RankSet,
 ) -> Result<Packings, AllocError>
-    requires able { IsPlannable ranks pinned.now rows.now }
+    requires able { IsPlannable ranks hours.now rows.now }
+    requires heats { HaveHeats rows.now hours.now }
     requires few { count ≤ 65536 }
     requires parts { HaveParts rows.now part.now count }
-    ensures { IfOk result (λ found. ArePackings ranks pinned.now rows.now part.now count found.even
+    ensures { IfOk result (λ found. ArePackings ranks hours.now rows.now part.now count found.even
         found.each.items) }
 {
-    let heats = part_heats(alloc, rows, part, count)?;
+    let hours = part_hours(alloc, hours, part, count)?;
+    let heats = greatest_heats(alloc, &hours, count)?;
     let inodes = part_inodes(alloc, rows, part, count)?;
     let order = by_heat(alloc, &heats)?;
     let parts = PartAmounts {
+        hours: &hours,
         heats: &heats,
         order: &order,
         inodes: &inodes,
         root: part[0],
-        pinned,
         ranks,
     };
     let even = even_choice(alloc, &parts)?;

@@ -1,13 +1,13 @@
 //! A rank for each directory, as a plan: its parts are the largest connected sets of directories that go to one rank.
 ghost use Rattle.std.specs.Prelude.{◌≡◌, ◌<◌, ℕ, true, false, length, slice_index, IfOk};
-ghost use Rattle.mds_types.specs.Problem.{IsForest, heat_at, now_at, parent_at};
+ghost use Rattle.mds_types.specs.Problem.{IsForest, now_at, parent_at};
 ghost use Rattle.mds_types.specs.RankSet.{has_rank};
 ghost use Rattle.residual_cut.specs.Labels.{starts};
-ghost use Rattle.ceph_plan.specs.Packing.{IsPinnedHeat, load};
-ghost use Rattle.ceph_plan.specs.Placements.{AreAsWanted, AreGoals, AreLoads, AreRegions, IsPlacement};
+ghost use Rattle.ceph_plan.specs.Placements.{AreAsWanted, AreGoals, AreRegions, IsPlacement};
 ghost use Rattle.ceph_plan.specs.Placements.{IsPlacementAt, is_border};
 
 use crate::bound::most;
+use crate::loads::worst_loads;
 use crate::packing::{Packing, moved};
 use crate::plan::{Plannable, Planned};
 use mds_types::{ProblemRow, Rank, RankSet};
@@ -114,25 +114,6 @@ fn regions_of(alloc: Global, rows: &[ProblemRow], goals: &[Rank]) -> Result<Regi
     Ok(Regions { part, rank })
 }
 
-/// The load of each rank, added up from the rows: the heat that is pinned there, and that of the rows that go there.
-fn loads_of_rows(
-    alloc: Global,
-    rows: &[ProblemRow],
-    goals: &[Rank],
-    pinned: &[u64],
-) -> Result<Vec<u64>, AllocError>
-    requires forest { IsForest rows.now }
-    requires size { length goals.now ≡ length rows.now }
-    requires pinned { IsPinnedHeat pinned.now }
-    ensures { IfOk result (λ loads. AreLoads pinned.now rows.now goals.now (length rows.now) loads.items) }
-{
-    let mut loads = pinned.to_vec(alloc)?;
-    for (i, row) in rows.iter().enumerate() {
-        loads[usize::from(goals[i].number())] += row.heat;
-    }
-    Ok(loads)
-}
-
 /// The plan that has each row at its rank.
 pub(crate) fn placed(
     alloc: Global,
@@ -140,11 +121,11 @@ pub(crate) fn placed(
     goals: &[Rank],
 ) -> Result<Planned, AllocError>
     requires { AreGoals of.now.ranks (length of.now.rows.now) goals.now }
-    ensures placed { IfOk result (IsPlacement of.now.ranks of.now.pinned.now of.now.rows.now) }
+    ensures placed { IfOk result (IsPlacement of.now.ranks of.now.hours.now of.now.rows.now) }
     ensures at { IfOk result (IsPlacementAt of.now.rows.now goals.now) }
 {
     let Regions { part, rank } = regions_of(alloc, of.rows, goals)?;
-    let load = loads_of_rows(alloc, of.rows, goals, of.pinned)?;
+    let load = worst_loads(alloc, of.hours, goals)?;
     let greatest = most(&load, of.ranks);
     let moved = moved(of.rows, &part, &rank);
     let count = rank.len() as u32;

@@ -1,9 +1,11 @@
 //! Plans of one number of parts.
 ghost use Rattle.std.specs.Prelude.{◌≡◌, ◌<◌, ◌≤◌, ◌↔◌, ℕ, IfErr, IfOk, IsTrue, length};
 ghost use Rattle.mds_types.specs.Problem.{IsForest, heat_at};
+ghost use Rattle.ceph_plan.specs.Packing.{HaveHeats};
 ghost use Rattle.ceph_plan.specs.Plans.{IsDivided, capped_rows};
 ghost use Rattle.ceph_plan.specs.Refusals.{IsPlannable};
 
+use crate::hours::Hour;
 use crate::packing::{Packing, Packings, pack};
 use crate::plan_error::PlanError;
 use mds_types::{ProblemRow, RankSet};
@@ -15,12 +17,13 @@ use std::alloc::{AllocError, Global};
 pub struct Plannable<'a> {
     /// The directories.
     pub rows: &'a [ProblemRow],
-    /// `pinned[r]` is the heat that is held at rank r.
-    pub pinned: &'a [u64],
+    /// What is counted of each hour. The heat of a row is that of all hours together, or of the only one.
+    pub hours: &'a [Hour],
     /// The ranks that may have a part, with rank 0.
     pub ranks: RankSet,
     pub ghost forest: { IsForest rows.now },
-    pub ghost able: { IsPlannable ranks pinned.now rows.now },
+    pub ghost able: { IsPlannable ranks hours.now rows.now },
+    pub ghost heats: { HaveHeats rows.now hours.now },
 }
 
 /// The directories divided into connected parts, and the parts packed on the ranks.
@@ -94,7 +97,7 @@ fn has_row_of(rows: &[ProblemRow], heat: u64) -> bool
 pub fn divide(alloc: Global, of: &Plannable<'_>, size: Size) -> Result<PackedDivision, PlanError>
     requires parts { 0 < size.parts }
     requires few { size.parts ≤ 65536 }
-    ensures divided { IfOk result (IsDivided of.now.ranks of.now.pinned.now of.now.rows.now size.parts size.cap) }
+    ensures divided { IfOk result (IsDivided of.now.ranks of.now.hours.now of.now.rows.now size.parts size.cap) }
     ensures refused { IfErr result (λ error. error ≡ PlanError.Memory) }
 {
     let capped = capped(alloc, of.rows, size.cap)?;
@@ -105,7 +108,7 @@ pub fn divide(alloc: Global, of: &Plannable<'_>, size: Size) -> Result<PackedDiv
         passes: _,
     } = search_rows(alloc, &capped, size.parts)?;
     let is_heavy = has_row_of(&capped, greatest);
-    let packings = pack(alloc, of.rows, &cut.part, cut.count, of.pinned, of.ranks)?;
+    let packings = pack(alloc, of.rows, &cut.part, cut.count, of.hours, of.ranks)?;
     Ok(PackedDivision {
         part: cut.part,
         count: cut.count,

@@ -1,6 +1,7 @@
 //! Why there is no plan.
 ghost use Rattle.std.specs.Prelude.{◌≡◌};
 
+use crate::hours_error::HoursError;
 use mds_types::ProblemError;
 use std::alloc::{AllocError, AllocFailed};
 use thiserror::Error;
@@ -26,6 +27,9 @@ pub enum PlanError {
     /// The directories are no problem for the planner.
     #[error("the directories can't be planned: {0}")]
     Problem(ProblemError),
+    /// The hours, or what they count, can't be planned for.
+    #[error("the hours can't be planned for: {0}")]
+    Hours(HoursError),
 }
 
 impl From<AllocError> for PlanError {

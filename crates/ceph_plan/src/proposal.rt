@@ -1,6 +1,7 @@
 //! The changes of export pins that bring each directory to the rank that a plan gives it.
 ghost use Rattle.std.specs.Prelude.{◌≡◌, ◌≤◌, ◌↔◌, length, IfErr, IfOk, IsTrue};
 ghost use Rattle.ceph_plan.specs.Candidates.{AreCandidates, IsCandidateRefusal};
+ghost use Rattle.ceph_plan.specs.Packing.{HaveHeats};
 ghost use Rattle.ceph_plan.specs.Placements.{IsPlacement};
 ghost use Rattle.ceph_plan.specs.Proposals.{IsProposal};
 ghost use Rattle.ceph_plan.specs.Refusals.{IsProposalRefusal};
@@ -8,6 +9,7 @@ ghost use Rattle.ceph_plan.specs.Refusals.{IsProposalRefusal};
 use crate::candidate::{Candidate, begun, costed};
 use crate::changes::changes_for;
 use crate::choice::{Limited, Wanted, choose_within};
+use crate::hours::Hour;
 use crate::pick::picked;
 use crate::plan::{Plannable, Planned};
 use crate::plan_error::PlanError;
@@ -49,8 +51,8 @@ fn candidates(
     divided: Planned,
 ) -> Result<Vec<Candidate>, PlanError>
     requires own { length own.now ≡ length of.now.rows.now }
-    requires placed { IsPlacement of.now.ranks of.now.pinned.now of.now.rows.now divided }
-    ensures candidates { IfOk result (λ found. AreCandidates of.now.ranks of.now.pinned.now of.now.rows.now
+    requires placed { IsPlacement of.now.ranks of.now.hours.now of.now.rows.now divided }
+    ensures candidates { IfOk result (λ found. AreCandidates of.now.ranks of.now.hours.now of.now.rows.now
         own.now wanted.rests divided found.items) }
     ensures refused { IfErr result (IsCandidateRefusal own.now) }
 {
@@ -79,20 +81,17 @@ pub fn propose(
     alloc: Global,
     rows: &[ProblemRow],
     wanted: Wanted,
-    pinned: &[u64],
+    hours: &[Hour],
     ranks: RankSet,
     own: &[OwnPins],
 ) -> Result<Proposal, PlanError>
+    requires heats { HaveHeats rows.now hours.now }
     requires own { length own.now ≡ length rows.now }
-    ensures proposal { IfOk result (IsProposal ranks pinned.now rows.now wanted own.now) }
-    ensures refused { IfErr result (IsProposalRefusal ranks pinned.now rows.now wanted own.now) }
+    ensures proposal { IfOk result (IsProposal ranks hours.now rows.now wanted own.now) }
+    ensures refused { IfErr result (IsProposalRefusal ranks hours.now rows.now wanted own.now) }
 {
-    let Limited { plan, limit } = choose_within(alloc, rows, wanted, pinned, ranks)?;
-    let of = Plannable {
-        rows,
-        pinned,
-        ranks,
-    };
+    let Limited { plan, limit } = choose_within(alloc, rows, wanted, hours, ranks)?;
+    let of = Plannable { rows, hours, ranks };
     let mut found = candidates(alloc, &of, own, wanted, limit, plan)?;
     let at = picked(&found, wanted, limit);
     let taken = found.swap_remove(at);

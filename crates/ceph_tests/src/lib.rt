@@ -10,9 +10,13 @@ mod dumps;
 #[cfg(test)]
 mod given;
 #[cfg(test)]
+mod hours;
+#[cfg(test)]
 mod inodes;
 #[cfg(test)]
 mod packing;
+#[cfg(test)]
+mod past_hours;
 #[cfg(test)]
 mod pins;
 #[cfg(test)]

@@ -2,9 +2,9 @@
 
 use crate::given::{by_rank, first, rank};
 use crate::same::{Row, Sure, same_in, same_rows};
-use ceph_plan::{Packed, Packings, are_parts, are_pinned, heats_bound, pack};
+use ceph_plan::{Packed, Packings, are_parts, are_pinned, heats_bound, one_hour, pack};
 use mds_types::{Problem, ProblemRow, Rank, RankSet};
-use std::alloc::Global;
+use std::alloc::{AllocError, Global};
 use std::process::Abort;
 
 // Each row's heat, and the rank that has it now.
@@ -27,19 +27,19 @@ const PARTS: &[u32] = &[0, 1, 2, 3, 4, 5];
 
 // The packings, none where `pack` doesn't take what it is given.
 fn packed_rows(
-    rt: &impl Abort,
     alloc: Global,
     problem: &Problem,
     part: &[u32],
     by_rank: &[u64],
-) -> Option<Packings> {
+) -> Result<Option<Packings>, AllocError> {
     let rows = problem.rows();
     let ranks = problem.ranks();
     let fits = rows.len() == part.len() && !rows.is_empty() && ranks.has(Rank::default());
     if fits && are_parts(part, 64) && are_pinned(by_rank) {
-        Some(pack(alloc, rows, part, 64, by_rank, ranks).sure(rt))
+        let hours = one_hour(alloc, rows, by_rank)?;
+        Ok(Some(pack(alloc, rows, part, 64, &hours, ranks)?))
     } else {
-        None
+        Ok(None)
     }
 }
 
@@ -58,7 +58,7 @@ fn packed(rt: &impl Abort, alloc: Global, row: &Case) -> Packings {
     let problem = Problem::new(rows_of(rt, alloc, row.given), ranks).sure(rt);
     let part = first(PARTS, row.given.len());
     let by_rank = by_rank(rt, alloc, row.pinned);
-    let packings = packed_rows(rt, alloc, &problem, part, &by_rank);
+    let packings = packed_rows(alloc, &problem, part, &by_rank).sure(rt);
     packings.ok_or("it isn't packed").sure(rt)
 }
 

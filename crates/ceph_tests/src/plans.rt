@@ -3,13 +3,13 @@
 use crate::given::{by_rank, first};
 use crate::refused::{WANTED, proposed};
 use crate::same::{Sure, same_in};
-use ceph_plan::{PlanError, Wanted, choose_plan};
+use ceph_plan::{PlanError, Planned, Wanted, choose_plan, one_hour};
 use mds_types::{ProblemRow, Rank, RankSet};
 use std::alloc::Global;
 use std::process::Abort;
 
 /// A root with children that have these heats, all at rank 0.
-fn star(rt: &impl Abort, alloc: Global, heats: &[u64]) -> Vec<ProblemRow> {
+pub(crate) fn star(rt: &impl Abort, alloc: Global, heats: &[u64]) -> Vec<ProblemRow> {
     let mut rows = Vec::new(alloc);
     for heat in heats {
         rows.push(ProblemRow {
@@ -49,10 +49,21 @@ fn plans_as_cool_as_can_be(rt: HostRuntime) {
     }
 }
 
+/// The plan for one hour.
+fn chosen(
+    alloc: Global,
+    rows: &[ProblemRow],
+    wanted: Wanted,
+    held: &[u64],
+    ranks: RankSet,
+) -> Result<Planned, PlanError> {
+    let hours = one_hour(alloc, rows, held)?;
+    choose_plan(alloc, rows, wanted, &hours, ranks)
+}
+
 /// Why there is no plan of these rows, pinned heats and ranks.
 fn refusal(alloc: Global, rows: &[ProblemRow], held: &[u64], mask: u64) -> Option<PlanError> {
-    let ranks = RankSet::from_bits(mask);
-    choose_plan(alloc, rows, WANTED, held, ranks).err()
+    chosen(alloc, rows, WANTED, held, RankSet::from_bits(mask)).err()
 }
 
 /// No heat is pinned to any rank.
@@ -89,7 +100,7 @@ fn moved_by_tolerance(rt: &impl Abort, alloc: Global, tolerances: &[u8]) -> Vec<
             ..WANTED
         };
         let ranks = RankSet::from_bits(7);
-        let plan = choose_plan(alloc, &rows, wanted, NOTHING_HELD, ranks).sure(rt);
+        let plan = chosen(alloc, &rows, wanted, NOTHING_HELD, ranks).sure(rt);
         moved.push(plan.moved).sure(rt);
     }
     moved

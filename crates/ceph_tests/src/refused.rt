@@ -3,7 +3,7 @@
 use crate::same::{holds_in, same};
 use ceph_dumps::{DumpError, read_listing, read_loads, read_subtrees};
 use ceph_folding::fold;
-use ceph_plan::{OwnPins, PartCount, PlanError, Proposal, Wanted, propose};
+use ceph_plan::{OwnPins, PartCount, PlanError, Proposal, Wanted, one_hour, propose};
 use ceph_snapshot::{
     Directory, Gathering, Held, Snapshot, SnapshotError, held_heat, holds, rows_of,
 };
@@ -93,7 +93,8 @@ fn gathered(alloc: Global) -> Result<Snapshot, Refused> {
 
 /// The directories that are left where one is folded.
 fn left(alloc: Global, directories: Vec<Directory>) -> Result<Vec<Directory>, Refused> {
-    let (left, folded) = fold(alloc, directories, 5)?;
+    let mut none = Vec::new(alloc);
+    let (left, folded) = fold(alloc, directories, 5, &mut none)?;
     if folded == 1 {
         Ok(left)
     } else {
@@ -124,8 +125,9 @@ pub(crate) fn proposed(
     if own.len() != rows.len() {
         return Err(Refused::Wrong);
     }
+    let hours = one_hour(alloc, rows, pinned)?;
     let ranks = RankSet::from_bits(7);
-    Ok(propose(alloc, rows, WANTED, pinned, ranks, &own)?)
+    Ok(propose(alloc, rows, WANTED, &hours, ranks, &own)?)
 }
 
 /// A plan of these directories, of which these are held.

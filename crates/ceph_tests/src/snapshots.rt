@@ -77,7 +77,7 @@ const SECOND_LOADS: &[Written<'static>] = &[
 ];
 
 /// Rank 0 has the root and a fragment of `/u`, rank 1 has `/a`, which is pinned, and the other fragment of `/u`.
-fn gathered(rt: &impl Abort, alloc: Global) -> Snapshot {
+pub(crate) fn gathered(rt: &impl Abort, alloc: Global) -> Snapshot {
     let mut all = Gathering::new(alloc).sure(rt);
     add_ranks(rt, alloc, &mut all);
     all.snapshot(&[], 1, RankSet::from_bits(3)).sure(rt)
@@ -167,7 +167,7 @@ const LEFT: &[Seen<'static>] = &[
     (b"/d", (0, (9, 4), 1, 0, false)),
 ];
 
-fn leaves(rt: &impl Abort, alloc: Global) -> Vec<Directory> {
+pub(crate) fn leaves(rt: &impl Abort, alloc: Global) -> Vec<Directory> {
     let mut all = Gathering::new(alloc).sure(rt);
     add_loads(rt, alloc, &mut all, rank(0), LEAVES);
     let found = all.snapshot(&[], 1, RankSet::from_bits(1)).sure(rt);
@@ -176,7 +176,8 @@ fn leaves(rt: &impl Abort, alloc: Global) -> Vec<Directory> {
 
 #[test]
 fn cold_leaves_are_folded(rt: HostRuntime) {
-    let (kept, folded) = fold(rt.alloc(), leaves(&rt, rt.alloc()), 3).sure(&rt);
+    let mut none = Vec::new(rt.alloc());
+    let (kept, folded) = fold(rt.alloc(), leaves(&rt, rt.alloc()), 3, &mut none).sure(&rt);
     same(&rt, &folded, &2);
     same_rows(&rt, &kept, LEFT, "left");
 }

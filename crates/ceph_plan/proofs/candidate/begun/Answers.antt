@@ -1,5 +1,6 @@
 use Rattle.std.proofs.Common.{◌∙◌, ◌++◌, ◌∷◌, [], ℕ, Bool, List, ap, length, subst, sym}
 use Rattle.mds_types.specs.declared.problem.ProblemRow.{ProblemRow}
+use Rattle.ceph_plan.specs.declared.hours.Hour.{Hour}
 use Rattle.ceph_plan.specs.declared.candidate.Candidate.{Candidate}
 use Rattle.ceph_plan.specs.declared.proposal.OwnPins.{OwnPins}
 use Rattle.ceph_plan.specs.Candidates.{ColdStays}
@@ -14,7 +15,7 @@ loop-first-init c =
     let ranks : ℕ = c.args.of.now.ranks in
     let rows : List ProblemRow = c.args.of.now.rows.now in
     let one : Candidate = c.in_ok-stays.stays in
-    begun-first ranks c.args.of.now.pinned.now rows c.args.own.now c.args.wanted.rests c.push.new.self.items one
+    begun-first ranks c.args.of.now.hours.now rows c.args.own.now c.args.wanted.rests c.push.new.self.items one
     (c.in_ok-push.ensures.items ∙ ap (λ (xs : List Candidate). xs ++ one ∷ []) c.new-found.ensures.items)
     c.in_ok-stays.ensures.candidate
     (present-at ranks rows c.in_ok-now.now.items c.in_ok-present.present.items one.plan c.in_ok-now.ensures.now
@@ -28,13 +29,13 @@ leaves_cold-requires c =
     record {
       parts = subst (λ (part : List ℕ). HaveParts rows part (length c.deref-in-loop-first-5.result.now)) (sym c.deref-in-loop-first-4.ensures.value)
           (subst (λ (rank : List ℕ). HaveParts rows one.plan.part.items (length rank)) (sym c.deref-in-loop-first-5.ensures.value)
-          (placed-parts c.args.of.now.ranks c.args.of.now.pinned.now rows one.plan c.in_ok-one.ensures.candidate.placed));
+          (placed-parts c.args.of.now.ranks c.args.of.now.hours.now rows one.plan c.in_ok-one.ensures.candidate.placed));
     }
 
 pub loop-first-preserved : goal.loop-first-preserved
 loop-first-preserved c =
     let ranks : ℕ = c.args.of.now.ranks in
-    let pinned : List ℕ = c.args.of.now.pinned.now in
+    let hours : List Hour = c.args.of.now.hours.now in
     let rows : List ProblemRow = c.args.of.now.rows.now in
     let own : List OwnPins = c.args.own.now in
     let rests : Bool = c.args.wanted.rests in
@@ -45,7 +46,7 @@ loop-first-preserved c =
           subst (λ (part : List ℕ). ColdStays ranks rows part one.plan.packing.rank.items (length rows)) c.deref-in-loop-first-4.ensures.value
           (subst (λ (rank : List ℕ). ColdStays ranks rows c.deref-in-loop-first-4.result.now rank (length rows)) c.deref-in-loop-first-5.ensures.value
           (c.in_ok-leaves_cold.ensures w.if-branch.true)) in
-          rw w.found-is (begun-more ranks pinned rows own rests c.loop-first.found.items _ one w.in_ok-push-2.ensures.items c.in_ok-one.ensures.candidate cold c.loop-first.invariant)
+          rw w.found-is (begun-more ranks hours rows own rests c.loop-first.found.items _ one w.in_ok-push-2.ensures.items c.in_ok-one.ensures.candidate cold c.loop-first.invariant)
       | else-branch w ↦ rw w.found-is c.loop-first.invariant
     ]
 

@@ -6,7 +6,7 @@ use Rattle.ceph_plan.proofs.choice.weighed.Given as goal
 -- what was weighed below this number of parts
 abbrev pub invariant-loop-parts : goal.invariant-loop-parts
 invariant-loop-parts l = record {
-  weighed : IsSoFar l.of.ranks l.of.pinned.now l.of.rows.now l.divisions.items l.is_heavy l.parts;
+  weighed : IsSoFar l.of.ranks l.of.hours.now l.of.rows.now l.divisions.items l.is_heavy l.parts;
   from : rank_count l.of.ranks ≤ l.parts;
 }
 

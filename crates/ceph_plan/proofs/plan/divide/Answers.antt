@@ -36,7 +36,7 @@ returns-clause-divided c =
       forest = c.args.of.now.forest;
       size = found.cut.size ∙ length-map rows (capped_row cap);
       division = division-capped cap rows _ _ found.cut.parts.division;
-      packings = subst (λ (part : List ℕ). ArePackings c.args.of.now.ranks c.args.of.now.pinned.now rows part best.cut.count c.in_ok-packings.packings.even c.in_ok-packings.packings.each.items)
+      packings = subst (λ (part : List ℕ). ArePackings c.args.of.now.ranks c.args.of.now.hours.now rows part best.cut.count c.in_ok-packings.packings.even c.in_ok-packings.packings.each.items)
           c.deref-3.ensures.value c.in_ok-packings.ensures;
       few = found.few;
       greatest = best.greatest;
