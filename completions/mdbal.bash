@@ -12,14 +12,14 @@ _mdbal() {
 _mdbal_ceph() {
     case ${COMP_WORDS[COMP_CWORD-1]} in
         --parts) _mdbal_words 'auto'; return ;;
-        --own|--check|--leave|--pins|--svg|--script) _mdbal_files -f; return ;;
+        --own|--check|--leave|--record|--pins|--svg|--script) _mdbal_files -f; return ;;
         --mount) _mdbal_files -d; return ;;
         --mask) _mdbal_words 'all'; return ;;
-        --most-pins|--least-gain|--least-heat|--least-by-inodes|--keep|--most-inodes) return ;;
+        --most-pins|--least-gain|--least-heat|--least-by-inodes|--keep|--most-inodes|--hours|--made) return ;;
     esac
     case ${COMP_WORDS[COMP_CWORD]} in
-        -*) _mdbal_words '--parts --most-pins --mask --own --check --least-gain --least-heat --least-by-inodes --keep --most-inodes --leave --mount --pins --subvolumes --svg --script --json --paths0 --help --version' ;;
-        *) _mdbal_files -d ;;
+        -*) _mdbal_words '--parts --most-pins --mask --own --check --least-gain --least-heat --least-by-inodes --keep --most-inodes --leave --hours --made --record --mount --pins --subvolumes --svg --script --json --paths0 --help --version' ;;
+        *) _mdbal_files -f ;;
     esac
 }
 _mdbal_check() {

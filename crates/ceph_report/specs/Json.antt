@@ -8,9 +8,10 @@ use Rattle.ceph_plan.specs.Changes.{before_pin}
 use Rattle.ceph_plan.specs.declared.row.PinChange.{PinChange}
 use Rattle.ceph_snapshot.specs.declared.directory.Directory.{Directory}
 use Rattle.ceph_snapshot.specs.Holding.{now_at}
+use Rattle.ceph_report.specs.Hours.{hours_member}
 use Rattle.ceph_report.specs.Left.{left_at}
 use Rattle.ceph_report.specs.Spreading.{advice_member}
-use Rattle.ceph_report.specs.Text.{comma, field, lines_below, path_value}
+use Rattle.ceph_report.specs.Text.{comma, field, lines_below, path_value, truth}
 use Rattle.ceph_report.specs.Told.{bound_term, hottest_bound, hottest_planned, into_of, is_told}
 use Rattle.ceph_report.specs.Told.{now_of, out_of, pinned_of, planned_of, planned_roots_of, roots_of}
 use Rattle.ceph_report.specs.declared.facts.BoundTerm.{BoundTerm}
@@ -20,9 +21,6 @@ use Rattle.ceph_report.specs.declared.json.ChangeForm.{ChangeForm}
 use Rattle.ceph_report.specs.declared.json.ChangeForm.TheVariants.{Back, There}
 use Rattle.ceph_report.specs.declared.staying.Stay.{Stay}
 use Rattle.ceph_report.specs.declared.staying_text.LeftForm.TheVariants.{Member}
-
-abbrev pub truth : Bool → List ℕ
-truth is_so = if is_so then codes "true" else codes "false"
 
 -- whether Ceph's balancer is on, whether there is so little heat that nothing is proposed, and whether the plan keeps
 -- within what is asked for
@@ -61,7 +59,8 @@ bound_members facts =
     ++ path_value facts.hottest.now.path.items
 
 unfoldable pub plan_numbers : Facts → List ℕ
-plan_numbers facts = plan_totals facts ++ bound_members facts ++ advice_member facts.size facts.advice
+plan_numbers facts =
+    plan_totals facts ++ bound_members facts ++ advice_member facts.size facts.advice ++ hours_member facts
 
 unfoldable pub rank_numbers : Facts → ℕ → List ℕ
 rank_numbers facts r =

@@ -1,5 +1,6 @@
 pub mod Amounts
 pub mod Check
+pub mod Hours
 pub mod Json
 pub mod Left
 pub mod Moves

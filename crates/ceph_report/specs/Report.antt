@@ -7,6 +7,7 @@ use Rattle.mds_types.specs.declared.limits.TheConstants.{HEAT_LIMIT}
 use Rattle.ceph_snapshot.specs.declared.directory.Directory.{Directory}
 use Rattle.ceph_snapshot.specs.Holding.{heat_at}
 use Rattle.ceph_snapshot.specs.Shown.{shown_path}
+use Rattle.ceph_report.specs.Hours.{hours_text}
 use Rattle.ceph_report.specs.Left.{left_at}
 use Rattle.ceph_report.specs.Spreading.{advice_text}
 use Rattle.ceph_report.specs.Staying.{is_left}
@@ -184,8 +185,9 @@ capped_lines directories = lines_below (capped_line directories) (length directo
 -- what the plan comes to, and what it moves
 unfoldable pub plan_text : Facts → List ℕ
 plan_text facts =
-    head_line facts ++ rank_table facts ++ heat_lines facts ++ bound_lines facts ++ hottest_line facts
-    ++ count_line facts ++ mode_text facts.balances ++ moves_text facts.directories.now facts.moves.now
+    head_line facts ++ rank_table facts ++ hours_text facts ++ heat_lines facts ++ bound_lines facts
+    ++ hottest_line facts ++ count_line facts ++ mode_text facts.balances
+    ++ moves_text facts.directories.now facts.moves.now
 
 -- what was left out, or has no single rank
 unfoldable pub left_out : Facts → List ℕ

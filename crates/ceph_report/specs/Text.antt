@@ -1,5 +1,5 @@
 -- How numbers and paths are written.
-use Rattle.std.specs.Prelude.{◌==◌, ◌||◌, ◌+◌, ◌-◌, ◌*◌, ◌/◌, ◌%◌, ◌++◌, ℕ, zero, suc, List, [], ◌∷◌}
+use Rattle.std.specs.Prelude.{◌==◌, ◌||◌, ◌+◌, ◌-◌, ◌*◌, ◌/◌, ◌%◌, ◌++◌, ℕ, zero, suc, Bool, List, [], ◌∷◌}
 use Rattle.std.specs.Prelude.{codes, decimal, length, min, nat_lt, take, if◌then◌else◌}
 use Rattle.std.specs.List.{flat_map}
 use Rattle.ceph_pins.specs.PinsScript.{path_at}
@@ -63,6 +63,10 @@ hex_string path = codes "\"" ++ flat_map (hexadecimal []) path ++ codes "\""
 unfoldable pub path_value : List ℕ → List ℕ
 path_value path =
     if is_utf8 path then codes "\":" ++ json_string path else codes "_bytes\":" ++ hex_string path
+
+-- a truth value of JSON
+abbrev pub truth : Bool → List ℕ
+truth is_so = if is_so then codes "true" else codes "false"
 
 -- what comes before the member of a list at this place
 unfoldable pub comma : ℕ → List ℕ

@@ -17,7 +17,7 @@ abbrev pub now_of : Facts → ℕ → ℕ
 now_of facts r = slice_index facts.sums.now.now.items r
 
 abbrev pub planned_of : Facts → ℕ → ℕ
-planned_of facts r = slice_index facts.plan.now.packing.load.items r
+planned_of facts r = slice_index facts.planned.now r
 
 abbrev pub pinned_of : Facts → ℕ → ℕ
 pinned_of facts r = slice_index facts.pinned.now r
@@ -47,7 +47,7 @@ abbrev pub hottest_now : Facts → ℕ
 hottest_now facts = hottest facts.sums.now.now.items
 
 abbrev pub hottest_planned : Facts → ℕ
-hottest_planned facts = hottest facts.plan.now.packing.load.items
+hottest_planned facts = hottest facts.planned.now
 
 -- what the hottest of all ranks can't get below: the bound of the plan's ranks, and the most that is pinned to a rank
 abbrev pub hottest_bound : Facts → ℕ

@@ -5,6 +5,7 @@ ghost use Rattle.ceph_report.specs.Told.{IsHottest, heat_of_ranks, bound_term, f
 ghost use Rattle.ceph_report.specs.Told.{hottest_now, hottest_place, hottest_planned, is_over, is_told};
 ghost use Rattle.ceph_report.specs.Told.{least_pinned, single_load};
 
+use crate::hours::PlannedHour;
 use crate::moves::{Move, Sums};
 use crate::roots::Roots;
 use crate::staying::Stay;
@@ -38,6 +39,12 @@ pub struct Facts<'a> {
     pub balances: bool,
     /// The plan.
     pub plan: &'a Planned,
+    /// The heat of each rank as planned, in thousandths.
+    pub planned: &'a [u64],
+    /// The hours that were planned for, that of now first.
+    pub hours: &'a [PlannedHour],
+    /// The names of the hours that were given, and not planned for.
+    pub left_hours: &'a [Vec<u8>],
     /// What no assignment of the collected directories to the ranks that may have a part can get below, in thousandths.
     pub bound: u64,
     /// What each rank has now, and what comes and goes.
@@ -148,7 +155,7 @@ impl Facts<'_> {
     pub(crate) fn hottest_planned(&self) -> u64
         ensures { result ≡ hottest_planned self.now }
     {
-        hottest(&self.plan.packing.load)
+        hottest(self.planned)
     }
 
     /// What the hottest of all ranks can't get below, in thousandths: the bound of the ranks that may have a part, and

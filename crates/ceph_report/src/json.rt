@@ -11,27 +11,21 @@ ghost use Rattle.ceph_report.specs.Json.{back_object, bound_members, change_list
 ghost use Rattle.ceph_report.specs.Json.{directory_members, inode_numbers, inode_text, json, mode_members};
 ghost use Rattle.ceph_report.specs.Json.{move_members, one_member, one_object, part_list, part_member, pin_members};
 ghost use Rattle.ceph_report.specs.Json.{plan_head, plan_numbers, plan_totals, rank_entry, rank_list, rank_members};
-ghost use Rattle.ceph_report.specs.Json.{rank_numbers, rank_object, root_numbers, stay_list, term_name, truth};
+ghost use Rattle.ceph_report.specs.Json.{rank_numbers, rank_object, root_numbers, stay_list, term_name};
 ghost use Rattle.ceph_report.specs.Text.{path_value};
 ghost use Rattle.ceph_report.specs.Told.{is_told};
 
 use crate::facts::{BoundTerm, Facts, number_at};
+use crate::hours::push_hours_member;
 use crate::spreading::push_member;
 use crate::staying::Stay;
 use crate::staying_text::{LeftForm, push_left};
-use crate::text::{comma, push_number, push_path_value, push_text};
+use crate::text::{comma, push_number, push_path_value, push_text, truth};
 use ceph_plan::{PinChange, PinRow};
 use ceph_snapshot::Directory;
 use mds_types::Rank;
 use mds_types::limits::RANK_LIMIT;
 use std::alloc::{AllocError, Global};
-
-/// A truth value.
-fn truth(is_so: bool) -> &'static str
-    ensures { result.now ≡ truth is_so }
-{
-    if is_so { "true" } else { "false" }
-}
 
 /// Adds whether Ceph's balancer is on, whether there is so little heat that nothing is proposed, and whether the plan
 /// keeps within what is asked for.
@@ -103,14 +97,15 @@ fn push_bound(text: &mut Vec<u8>, facts: &Facts) -> Result<(), AllocError>
     push_path_value(text, &facts.hottest.path)
 }
 
-/// Adds what the plan comes to, what makes the bound, and what Ceph's own policy would give.
+/// Adds what the plan comes to, what makes the bound, what Ceph's own policy would give, and the hours.
 #[tactic(auto, unfolding(crate::specs::Json::plan_numbers))]
 fn push_numbers(text: &mut Vec<u8>, facts: &Facts) -> Result<(), AllocError>
     ensures { OnOk result (text.new.items ≡ text.old.items ++ plan_numbers facts.now) }
 {
     push_totals(text, facts)?;
     push_bound(text, facts)?;
-    push_member(text, facts)
+    push_member(text, facts)?;
+    push_hours_member(text, facts)
 }
 
 /// Adds a rank and its heat.
@@ -120,7 +115,7 @@ fn push_rank_heats(text: &mut Vec<u8>, facts: &Facts, number: u8) -> Result<(), 
 {
     push_number(text, "\n  {\"rank\":", u64::from(number))?;
     push_number(text, ",\"now\":", number_at(&facts.sums.now, number))?;
-    let planned = number_at(&facts.plan.packing.load, number);
+    let planned = number_at(facts.planned, number);
     push_number(text, ",\"planned\":", planned)?;
     push_number(text, ",\"pinned\":", number_at(facts.pinned, number))
 }

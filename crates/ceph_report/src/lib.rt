@@ -4,6 +4,7 @@
 
 pub mod check;
 pub mod facts;
+pub mod hours;
 pub mod json;
 pub mod laws;
 pub mod mdbal_script;
@@ -20,6 +21,7 @@ mod text;
 
 pub use check::{PinCheck, check_pins};
 pub use facts::{Facts, HottestDirectory, hottest, hottest_of};
+pub use hours::PlannedHour;
 pub use json::make_json;
 pub use mdbal_script::make_script;
 pub use moves::{Move, Sums, goals_of, inodes_brought, moves_of, sums_of};

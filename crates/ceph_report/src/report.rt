@@ -13,6 +13,7 @@ ghost use Rattle.ceph_report.specs.Report.{told_line};
 ghost use Rattle.ceph_report.specs.Text.{place_text};
 
 use crate::facts::{BoundTerm, Facts, has_number, number_at};
+use crate::hours::push_all_hours;
 use crate::moves::Move;
 use crate::spreading::push_advice;
 use crate::staying_text::push_all_left;
@@ -59,7 +60,7 @@ fn push_rank_heats(text: &mut Vec<u8>, facts: &Facts, number: u8) -> Result<(), 
 {
     push_columns(text, u64::from(number), 4)?;
     push_heat(text, "", number_at(&facts.sums.now, number))?;
-    push_heat(text, "", number_at(&facts.plan.packing.load, number))?;
+    push_heat(text, "", number_at(facts.planned, number))?;
     push_heat(text, "", number_at(facts.pinned, number))
 }
 
@@ -515,6 +516,7 @@ fn push_plan(text: &mut Vec<u8>, facts: &Facts) -> Result<(), AllocError>
 {
     push_head(text, facts)?;
     push_ranks(text, facts)?;
+    push_all_hours(text, facts)?;
     push_heats(text, facts)?;
     push_bound(text, facts)?;
     push_hottest(text, facts)?;

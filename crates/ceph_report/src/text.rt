@@ -5,7 +5,7 @@ ghost use Rattle.std.specs.Str.{is_utf8};
 ghost use Rattle.ceph_snapshot.specs.Shown.{shown_byte, shown_path};
 ghost use Rattle.ceph_report.specs.Text.{columns, comma, field, heat_text, hex_digit, hexadecimal, json_byte};
 ghost use Rattle.ceph_report.specs.Text.{hex_string, json_string, path_value, per_mille, per_mille_above};
-ghost use Rattle.ceph_report.specs.Text.{percent_text};
+ghost use Rattle.ceph_report.specs.Text.{percent_text, truth};
 
 use itoa::Buffer;
 use std::alloc::AllocError;
@@ -219,4 +219,11 @@ pub(crate) fn comma(at: usize) -> &'static str
     ensures { result.now ≡ comma at }
 {
     if at > 0 { "," } else { "" }
+}
+
+/// A truth value.
+pub(crate) fn truth(is_so: bool) -> &'static str
+    ensures { result.now ≡ truth is_so }
+{
+    if is_so { "true" } else { "false" }
 }

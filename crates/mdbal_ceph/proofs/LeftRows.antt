@@ -7,7 +7,6 @@ use Rattle.ceph_snapshot.specs.declared.held.Held.{Held}
 use Rattle.ceph_snapshot.specs.declared.held.Held.TheVariants.{Free}
 use Rattle.ceph_snapshot.specs.Holding.{held_at, now_at}
 use Rattle.ceph_snapshot.specs.Policies.{dir_path_at}
-use Rattle.ceph_snapshot.specs.Rows.{AreRowsOf}
 use Rattle.ceph_plan.specs.declared.choice.Wanted.{Wanted}
 use Rattle.ceph_plan.specs.declared.plan.Planned.{Planned}
 use Rattle.ceph_plan.specs.declared.proposal.OwnPins.{OwnPins}
@@ -21,13 +20,13 @@ use Rattle.ceph_pins.specs.OwnPins.{AreOwnPins}
 use Rattle.ceph_report.specs.Amounts.{goal_at, goal_of}
 
 pub left_stays : (directories : List Directory) (leave : List (List ℕ)) (holds : List Held) (rows : List ProblemRow) (own : List OwnPins) (wanted : Wanted) (plan : Planned)
-    (found : List PinRow) → AreRowsOf directories holds (length directories) rows → AreOwnPins directories leave (length directories) own
+    (found : List PinRow) → length rows ≡ length directories → ((i : ℕ) → i < length directories → problem.now_at rows i ≡ now_at directories i)
+    → AreOwnPins directories leave (length directories) own
     → ArePinRows rows plan.part.items plan.packing.rank.items own (length rows) wanted.rests found → KeepsWithin rows wanted own plan
     → (i : ℕ) → i < length directories → IsLeft leave (dir_path_at directories i) → held_at holds i ≡ Free → goal_at holds found i ≡ now_at directories i
-left_stays directories leave holds rows own wanted plan found rows_of own_is asked keeps i inside left free =
-    let there : i < length rows = omega (arith, inside, rows_of.size) in
+left_stays directories leave holds rows own wanted plan found size now own_is asked keeps i inside left free =
+    let there : i < length rows = omega (arith, inside, size) in
     let goal : goal_at holds found i ≡ target_at found i = ap (λ (hold : Held). goal_of hold (target_at found i)) free in
     let target : target_at found i ≡ packed_rank plan.packing.rank.items plan.part.items i = ap (λ (one : PinRow). one.target) (asked.asked i there) in
     let stays : packed_rank plan.packing.rank.items plan.part.items i ≡ problem.now_at rows i = keeps.left i there ((own_is.each i inside).left.1 left) in
-    let now : problem.now_at rows i ≡ now_at directories i = ap (λ (row : ProblemRow). row.now) (rows_of.planned i inside) in
-    goal ∙ (target ∙ (stays ∙ now))
+    goal ∙ (target ∙ (stays ∙ now i inside))

@@ -4,6 +4,9 @@ pub mod LeftRows
 pub mod Ours
 pub mod OwnLines
 pub mod Parents
+pub mod PastHours
+pub mod PresentPinned
+pub mod SharedRows
 pub mod Simple
 pub mod Untouched
 pub mod Written

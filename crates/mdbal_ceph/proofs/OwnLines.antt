@@ -12,9 +12,9 @@ use Rattle.std.proofs.lemmas.Fmt.{digits_decimal, digits_value-decimal}
 use Rattle.std.proofs.lemmas.List.Elements.{All-append, All-cons, All-head, All-nil, All-tail}
 use Rattle.std.proofs.lemmas.List.Splits.{slice_split_at}
 use Rattle.std.proofs.lemmas.Str.Parse.{IsDigitsTest, numerals_by_value, tells_digits}
-use Rattle.ceph_dumps.specs.OwnList.{ArePinsOfList, IsPinLine, RankPath, behind_digits, digit_count, has_octal, is_digit_to, line_pins, line_rank_path, list_lines, named_bytes, octal_byte, rank_path}
+use Rattle.ceph_dumps.specs.OwnList.{ArePinsOfList, IsPinLine, RankPath, behind_digits, digit_count, has_octal, is_digit_to, line_pins, line_rank_path, list_lines, name_byte, named_bytes, octal_byte, rank_path}
 use Rattle.ceph_dumps.specs.declared.own_list.OwnPin.{OwnPin}
-use Rattle.ceph_pins.specs.OwnList.{name_byte, own_line, own_lines, pin_line_of}
+use Rattle.ceph_pins.specs.OwnList.{own_line, own_lines, pin_line_of}
 use Rattle.ceph_snapshot.specs.declared.directory.Directory.{Directory}
 use Rattle.mdbal_ceph.specs.OwnListPins.{IsListable, own_list_pin, pins_down_from}
 

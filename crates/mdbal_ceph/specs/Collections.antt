@@ -20,7 +20,8 @@ use Rattle.ceph_snapshot.specs.declared.directory.Directory.{Directory}
 use Rattle.ceph_snapshot.specs.declared.gathering.Gathering.{Gathering}
 use Rattle.ceph_snapshot.specs.declared.snapshot.Snapshot.{Snapshot}
 use Rattle.ceph_snapshot.specs.declared.tree.Node.{Node}
-use Rattle.mdbal_ceph.specs.Dumps.{AreDumpsOf, DumpValue, Dumps, all_facts, all_seen, file_in}
+use Rattle.mdbal_ceph.specs.Dumps.{AreDumpsOf, AreRanksOf, DumpValue, Dumps, all_facts, all_seen, file_in}
+use Rattle.mdbal_ceph.specs.Dumps.{root_facts}
 use Rattle.mdbal_ceph.specs.Folder.{FileContent, IsInFile, Missing}
 use Rattle.mdbal_ceph.specs.declared.collected.Collected.{Collected}
 
@@ -103,6 +104,15 @@ pub record IsSnapshotOf (seen : List PathHeat) (facts : List Fact) (listed numbe
       ≡ option_map (with_owner own ranks) (path_pin_at nodes i)
   pub entries : (i : ℕ) → option_map listed_of (slice_get snapshot.directories.items i)
       ≡ option_map (with_unknown (is_unknown_at listed tops i)) (listed_at nodes i)
+
+-- the directories are those of the dumps of the ranks alone, of the files of a folder
+pub record IsOfRanks (reads : List ℕ → FileContent → Type 0) (says : List ℕ → DumpValue → Type 0) (folder : List ℕ)
+    (snapshot : Snapshot) : Type 0 where
+  pub dumps : Dumps
+  pub dumps_of : AreRanksOf reads says folder dumps
+  pub is : IsSnapshot snapshot
+  pub directories : IsSnapshotOf (all_seen dumps.ranks) (root_facts dumps.ranks) false false dumps.count []
+      dumps.cluster.ranks snapshot
 
 -- what was collected is read of the files of a folder, and of the list of pins of this name where one is named: which
 -- file system it is, its ranks, whether Ceph's balancer is on, the samples, and the directories by all of its dumps

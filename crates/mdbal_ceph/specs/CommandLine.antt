@@ -4,7 +4,7 @@ use Rattle.std.specs.Prelude.{if◌then◌else◌}
 use Rattle.std.specs.List.{fold}
 use Rattle.std.specs.Option.{option_map}
 use Rattle.clap.specs.Words.{App, Rule, Text, fault_of, matches_of, new_app, new_rule, with_rule}
-use Rattle.clap.specs.declared.builder.action.ArgAction.TheVariants.{SetTrue}
+use Rattle.clap.specs.declared.builder.action.ArgAction.TheVariants.{Append, SetTrue}
 use Rattle.command_line.specs.Outcome.{Explains}
 use Rattle.command_line.specs.declared.options_error.OptionsError.{OptionsError}
 use Rattle.command_line.specs.declared.options_error.OptionsError.TheVariants.{Help, Memory, Refused as Denied, Version}
@@ -12,11 +12,11 @@ use Rattle.mdbal_ceph.specs.declared.settings.PlanOption.{PlanOption}
 use Rattle.mdbal_ceph.specs.declared.settings.PlanSettings.{PlanSettings}
 use Rattle.mdbal_ceph.specs.declared.settings.Refused.{Refused}
 use Rattle.mdbal_ceph.specs.declared.settings.Refused.TheVariants.{Value, Words}
-use Rattle.mdbal_ceph.specs.Options.{AreRead}
+use Rattle.mdbal_ceph.specs.Options.{AreRead, FitTogether}
 
--- `DIR`, which has to be there
+-- `DIR ..`, of which one at least has to be there
 abbrev pub folder_rule : Rule
-folder_rule = record (new_rule (codes "folder")) { value_names = 1; required = true }
+folder_rule = record (new_rule (codes "folder")) { value_names = 1; required = true; action = Some Append }
 
 -- an option with no value
 abbrev pub flag_rule : Text → Rule
@@ -33,8 +33,10 @@ option_rules =
     ∷ value_rule (codes "least-gain") (codes "5" ∷ []) ∷ value_rule (codes "least-heat") []
     ∷ value_rule (codes "least-by-inodes") (codes "0" ∷ []) ∷ value_rule (codes "keep") (codes "5" ∷ [])
     ∷ value_rule (codes "most-inodes") [] ∷ value_rule (codes "leave") []
-    ∷ value_rule (codes "mount") (codes "/mnt/cephfs" ∷ []) ∷ value_rule (codes "pins") []
-    ∷ flag_rule (codes "subvolumes") ∷ value_rule (codes "svg") [] ∷ value_rule (codes "script") []
+    ∷ value_rule (codes "hours") (codes "24" ∷ []) ∷ value_rule (codes "made") (codes "0" ∷ [])
+    ∷ value_rule (codes "record") [] ∷ value_rule (codes "mount") (codes "/mnt/cephfs" ∷ [])
+    ∷ value_rule (codes "pins") [] ∷ flag_rule (codes "subvolumes") ∷ value_rule (codes "svg") []
+    ∷ value_rule (codes "script") []
     ∷ flag_rule (codes "json") ∷ flag_rule (codes "paths0") ∷ []
 
 abbrev pub defaults_of : Option Text → List Text
@@ -54,13 +56,13 @@ with_options app options = fold (λ one option. with_rule one (option_rule optio
 abbrev pub plan_command : App
 plan_command = let app = new_app (codes "mdbal_ceph") in record app { top = record app.top { has_version = true } }
 
--- `mdbal_ceph DIR [options]`
+-- `mdbal_ceph [options] DIR ..`
 abbrev pub mdbal_ceph : App
 mdbal_ceph = fold with_rule (with_rule plan_command folder_rule) option_rules
 
--- the settings are those of the words of the command line
+-- the settings are those of the words of the command line, and fit together
 abbrev pub AreSettings : List Text → PlanSettings → Type 0
-AreSettings words settings = AreRead (matches_of mdbal_ceph words) settings
+AreSettings words settings = AreRead (matches_of mdbal_ceph words) settings × FitTogether settings
 
 -- why the words give no settings: `clap` refuses them, or they ask for the help or the version; or `clap` takes them,
 -- and the value of an option has another form

@@ -41,9 +41,15 @@ pins_files (Some name) (Some pins) =
     ∷ Whole (name ++ codes ".back") pins.back.items ∷ Whole name pins.script.items ∷ []
 pins_files _ _ = []
 
+-- the record of now, and the picture
+abbrev pub shown_files : PlanSettings → PlanOutput → List FileWrite
+shown_files settings output =
+    text_files (option_map (λ name. name.now) settings.record_to) output.hour_record
+    ++ text_files (option_map (λ name. name.now) settings.svg) output.picture
+
 abbrev pub plan_files : PlanSettings → PlanOutput → List FileWrite
 plan_files settings output =
-    text_files (option_map (λ name. name.now) settings.svg) output.picture
+    shown_files settings output
     ++ text_files (option_map (λ name. name.now) settings.script) output.script
     ++ pins_files (option_map (λ name. name.now) settings.pins) output.pins
 

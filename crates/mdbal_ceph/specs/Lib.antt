@@ -4,10 +4,12 @@ pub mod DriverPlan
 pub mod Dumps
 pub mod Exit
 pub mod Folder
+pub mod Hours
 pub mod Named
 pub mod Options
 pub mod Outcomes
 pub mod OwnListPins
+pub mod Past
 pub mod PlanChecks
 pub mod Usable
 pub mod Writing

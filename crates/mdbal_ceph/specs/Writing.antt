@@ -1,9 +1,10 @@
 -- What is written of a plan.
-use Rattle.std.specs.Prelude.{◌≡◌, ◌↔◌, ◌*◌, ◌++◌, ◌∷◌, ℕ, Bool, List, [], length, nat_lt, string_bytes}
+use Rattle.std.specs.Prelude.{◌≡◌, ◌↔◌, ◌==◌, ◌&&◌, ◌+◌, ◌-◌, ◌*◌, ◌/◌, ◌++◌, ◌∷◌, ℕ, Bool, List, [], length, max, min}
+use Rattle.std.specs.Prelude.{nat_lt, slice_get, string_bytes}
 use Rattle.std.specs.Prelude.{IfSome, IsTrue, is_some, option_copied, if◌then◌else◌}
-use Rattle.std.specs.Option.{unwrap_or}
+use Rattle.std.specs.Option.{option_map_or, unwrap_or}
 use Rattle.mds_types.specs.RankSet.{rank_count}
-use Rattle.mds_types.specs.Sums.{count_below}
+use Rattle.mds_types.specs.Sums.{count_below, max_below}
 use Rattle.ceph_plan.specs.declared.row.PinChange.{PinChange}
 use Rattle.ceph_plan.specs.Worth.{IsWorthMoving}
 use Rattle.ceph_plan.specs.declared.worth.Gain.{Gain}
@@ -20,6 +21,9 @@ use Rattle.ceph_report.specs.Roots.{AreRoots}
 use Rattle.ceph_report.specs.Staying.{AreStays}
 use Rattle.ceph_report.specs.Told.{hottest}
 use Rattle.ceph_report.specs.declared.facts.Facts.{Facts}
+use Rattle.ceph_report.specs.declared.hours.PlannedHour.{PlannedHour}
+use Rattle.ceph_snapshot.specs.Holding.{most_heat}
+use Rattle.mdbal_ceph.specs.Hours.{load_now}
 use Rattle.mdbal_ceph.specs.declared.outcome.Outcome.{Outcome}
 use Rattle.mdbal_ceph.specs.declared.settings.Least.{Least}
 use Rattle.mdbal_ceph.specs.declared.settings.PlanSettings.{PlanSettings}
@@ -30,13 +34,42 @@ use Rattle.mdbal_ceph.specs.DriverPlan.{driver_plan}
 use Rattle.mdbal_ceph.specs.declared.writing.PinFiles.{PinFiles}
 use Rattle.mdbal_ceph.specs.declared.writing.PlanOutput.{PlanOutput}
 
--- what the plan comes to: the heat of the hottest rank, now and as planned, and the inodes that move
+-- a heat in an hour with this bound, as it counts beside one of now: as much of the bound of now as it is of its own,
+-- rounded up
+abbrev pub as_now : ℕ → ℕ → ℕ → ℕ
+as_now heat bound now = if bound == 0 then heat else min most_heat ((heat * now + (bound - 1)) / bound)
+
+abbrev pub bound_now : List PlannedHour → ℕ
+bound_now hours = option_map_or (λ (hour : PlannedHour). hour.bound) (slice_get hours 0) 0
+
+-- the heat of the hottest rank in an earlier hour that was seen, where each directory is now, and as planned
+abbrev pub earlier_heat : (PlannedHour → List ℕ) → ℕ → ℕ → PlannedHour → ℕ
+earlier_heat loads now h hour =
+    if nat_lt 0 h && hour.is_seen then as_now (hottest (loads hour)) hour.bound now else 0
+
+abbrev pub other_now : List PlannedHour → ℕ → ℕ
+other_now hours h =
+    option_map_or (earlier_heat (λ (hour : PlannedHour). hour.now.items) (bound_now hours) h) (slice_get hours h) 0
+
+abbrev pub other_planned : List PlannedHour → ℕ → ℕ
+other_planned hours h =
+    option_map_or (earlier_heat (λ (hour : PlannedHour). hour.planned.items) (bound_now hours) h) (slice_get hours h) 0
+
+-- the worst of them
+abbrev pub worst_now : List PlannedHour → ℕ
+worst_now hours = max_below (length hours) (other_now hours)
+
+abbrev pub worst_planned : List PlannedHour → ℕ
+worst_planned hours = max_below (length hours) (other_planned hours)
+
+-- what the plan comes to in the worst of the hours that were seen: the heat of the hottest rank, now and as planned,
+-- and the inodes that move
 abbrev pub gain_of : Outcome → Gain
 gain_of outcome =
     record {
       heat = hottest outcome.decision.sums.now.items;
-      now = hottest outcome.decision.sums.now.items;
-      planned = hottest outcome.decision.proposal.plan.packing.load.items;
+      now = max (worst_now outcome.decision.hours.items) (hottest outcome.decision.sums.now.items);
+      planned = max (worst_planned outcome.decision.hours.items) (hottest (load_now outcome.decision.hours.items));
       moved = outcome.decision.proposal.plan.moved;
     }
 
@@ -103,6 +136,9 @@ pub record AreFacts (outcome : Outcome) (is_idle : Bool) (count : ℕ) (facts : 
   pub ranks : facts.ranks ≡ outcome.ranks
   pub balances : facts.balances ≡ outcome.balances
   pub plan : facts.plan.now ≡ outcome.decision.proposal.plan
+  pub planned : facts.planned.now ≡ load_now outcome.decision.hours.items
+  pub hours : facts.hours.now ≡ outcome.decision.hours.items
+  pub left_hours : facts.left_hours.now ≡ outcome.decision.left.items
   pub hottest : facts.hottest.now ≡ outcome.hottest
   pub advice : option_copied facts.advice ≡ outcome.advice
   pub bound : facts.bound ≡ outcome.bound

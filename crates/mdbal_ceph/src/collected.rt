@@ -9,8 +9,8 @@ ghost use Rattle.ceph_snapshot.specs.Facts.{Fact, roots_in};
 ghost use Rattle.ceph_snapshot.specs.Sightings.{PathHeat, seen_in};
 ghost use Rattle.ceph_snapshot.specs.Snapshots.{IsSnapshot};
 ghost use Rattle.mds_types.specs.declared.limits.TheConstants.{RANK_LIMIT};
-ghost use Rattle.mdbal_ceph.specs.Collections.{Adds, AreLeftOf, HasOurPins, IsCollected, HasGathered, IsOwnOf};
-ghost use Rattle.mdbal_ceph.specs.Collections.{pins_listed};
+ghost use Rattle.mdbal_ceph.specs.Collections.{Adds, AreLeftOf, HasOurPins, IsCollected, HasGathered, IsOfRanks};
+ghost use Rattle.mdbal_ceph.specs.Collections.{IsOwnOf, pins_listed};
 ghost use Rattle.mdbal_ceph.specs.Dumps.{AreInodes, AreRankDumps, IsLoadsFile, IsRankDump, IsRootsFile, IsSampleCount};
 ghost use Rattle.mdbal_ceph.specs.Dumps.{RankDump, all_seen, file_in, listed_facts, loads_file, rank_facts, rank_seen};
 ghost use Rattle.mdbal_ceph.specs.Dumps.{ranks_below, ranks_if, root_facts, subtrees_file};
@@ -263,6 +263,23 @@ pub fn listed(own: &Option<Vec<OwnPin>>) -> &[OwnPin]
     }
 }
 
+/// Reads the dumps of the ranks of a folder, without what was listed over a mount.
+pub(crate) fn read_ranks<F: Folder, D: DumpReader, C: Clock, E: Write>(
+    progress: &mut Progress<'_, C>,
+    errors: &mut E,
+    inputs: &Inputs<'_, F, D, C>,
+    folder: &str,
+) -> Result<Snapshot, Error>
+    ensures { IfOk result (IsOfRanks (F.reads inputs.now.files.now) D.says folder.now) }
+{
+    let (files, reader, alloc) = (inputs.files, inputs.reader, inputs.alloc);
+    let ranks = cluster_of(files, reader, alloc, folder)?.ranks;
+    let source = source_of(files, reader, alloc, folder)?;
+    let gathering = read_dumps(progress, errors, &source, ranks)?;
+    let snapshot = gathering.snapshot(&[], source.samples, ranks)?;
+    Ok(snapshot)
+}
+
 /// The paths of the directories that the dumps of a folder name, and of a list of pins where it is asked for.
 pub fn read_named<F: Folder, D: DumpReader, C: Clock, E: Write>(
     progress: &mut Progress<'_, C>,
@@ -274,13 +291,9 @@ pub fn read_named<F: Folder, D: DumpReader, C: Clock, E: Write>(
     ensures { IfOk result (λ text. AreNamed (F.reads inputs.now.files.now) D.says folder.now
         (option_map (λ name. name.now) own.entry) text.items) }
 {
-    let (files, reader, alloc) = (inputs.files, inputs.reader, inputs.alloc);
-    let ranks = cluster_of(files, reader, alloc, folder)?.ranks;
-    let source = source_of(files, reader, alloc, folder)?;
-    let gathering = read_dumps(progress, errors, &source, ranks)?;
-    let snapshot = gathering.snapshot(&[], source.samples, ranks)?;
-    let own = own_pins(files, alloc, own)?;
-    let text = paths0(alloc, &snapshot.directories, listed(&own))?;
+    let snapshot = read_ranks(progress, errors, inputs, folder)?;
+    let own = own_pins(inputs.files, inputs.alloc, own)?;
+    let text = paths0(inputs.alloc, &snapshot.directories, listed(&own))?;
     Ok(text)
 }
 

@@ -1,4 +1,5 @@
-//! `mdbal_ceph DIR [options]`: reads what `ceph/collect` wrote of a live CephFS, and says which export pins balance it.
+//! `mdbal_ceph [options] DIR ..`: reads what `ceph/collect` wrote of a live CephFS, and says which export pins balance
+//! it.
 #![tactic(auto)]
 
 mod collected;
@@ -7,16 +8,21 @@ mod driver_plan;
 mod dump_reader;
 mod files;
 mod folder;
+mod hours;
 mod input;
 mod inputs;
 mod laws;
+mod matched;
 mod named;
 mod outcome;
 mod outputs;
+mod past;
+mod planning;
 mod progress;
 mod running;
 mod settings;
 mod source;
+mod values;
 mod writing;
 
 use dump_reader::CephDumps;

@@ -1,7 +1,7 @@
 //! The files that are written.
 ghost use Rattle.std.specs.Prelude.{◌≡◌, ◌++◌, ◌∷◌, [], IfOk, OnErr, OnOk, Some, string_bytes};
 ghost use Rattle.std.specs.Option.{option_map};
-ghost use Rattle.mdbal_ceph.specs.Exit.{IsCutShort, Whole, Writes, pins_files, plan_files, text_files};
+ghost use Rattle.mdbal_ceph.specs.Exit.{IsCutShort, Whole, Writes, pins_files, plan_files, shown_files, text_files};
 
 use crate::settings::PlanSettings;
 use crate::writing::{PinFiles, PlanOutput};
@@ -129,6 +129,22 @@ fn write_text<O: OutputFiles>(
     Ok(())
 }
 
+/// Writes the record and the picture, where they are asked for.
+fn write_texts<O: OutputFiles>(
+    outputs: &mut O,
+    settings: &PlanSettings,
+    output: &PlanOutput,
+) -> Result<(), Error>
+    ensures whole { OnOk result (Writes (O.written outputs.old) (O.written outputs.new)
+        (shown_files settings.now output.now)) }
+    ensures cut { OnErr result (IsCutShort (O.written outputs.old) (O.written outputs.new)
+        (shown_files settings.now output.now)) }
+{
+    write_text(outputs, settings.record_to, &output.hour_record)?;
+    write_text(outputs, settings.svg, &output.picture)?;
+    Ok(())
+}
+
 /// Writes the files of a plan that are asked for.
 pub(crate) fn write_files<O: OutputFiles>(
     outputs: &mut O,
@@ -141,7 +157,7 @@ pub(crate) fn write_files<O: OutputFiles>(
     ensures cut { OnErr result (IsCutShort (O.written outputs.old) (O.written outputs.new)
         (plan_files settings.now output.now)) }
 {
-    write_text(outputs, settings.svg, &output.picture)?;
+    write_texts(outputs, settings, output)?;
     write_text(outputs, settings.script, &output.script)?;
     write_pins(outputs, alloc, settings.pins, &output.pins)?;
     Ok(())

@@ -1,15 +1,17 @@
 //! What the words of the command line ask for.
-ghost use Rattle.std.specs.Prelude.{◌≡◌, ◌*◌, [], IfErr, IfOk, false, map};
-ghost use Rattle.std.specs.Option.{option_map};
+ghost use Rattle.std.specs.Prelude.{◌≡◌, ◌&&◌, ◌||◌, [], IfErr, IfOk, false, is_some, length, map, nat_lt};
 ghost use Rattle.clap.specs.Words.{app_of, fault_of, first_of, found_of, matches_of, rows_of, rule_of, with_rule};
 ghost use Rattle.command_line.specs.Outcome.{Explains};
 ghost use Rattle.mdbal_ceph.specs.CommandLine.{AreSettings, EndsAs, GivesNoSettings, folder_rule, mdbal_ceph};
 ghost use Rattle.mdbal_ceph.specs.CommandLine.{option_rule};
 ghost use Rattle.mdbal_ceph.specs.CommandLine.{option_rules, plan_command, with_options};
-ghost use Rattle.mdbal_ceph.specs.Options.{AreRead, IsFlag, heat_named, inodes_named, least_named, mask_named};
-ghost use Rattle.mdbal_ceph.specs.Options.{option_number, parts_named, value_or};
+ghost use Rattle.mdbal_ceph.specs.Options.{AreRead, FitTogether, IsFlag, IsPastNamed, folders_named, least_named};
+ghost use Rattle.mdbal_ceph.specs.Options.{value_or};
 
-use crate::input::mask_named;
+use crate::matched::{folders_of, has_flag, value_of, value_or};
+use crate::values::{
+    heat_if_any, heat_of, hours_of, inodes_if_any, made_of, mask_of, mount_of, parts_of, percent_of,
+};
 use ceph_plan::PartCount;
 use clap::{Arg, ArgAction, ArgMatches, Command};
 use command_line::OptionsError;
@@ -32,11 +34,24 @@ pub struct Least {
     pub each_thousand: u64,
 }
 
+/// Which hours are planned for beside that of now.
+#[derive(Drop)]
+pub struct HoursAsked<'a> {
+    /// The folders and the records of earlier hours, the oldest first.
+    pub earlier: Vec<&'a str>,
+    /// How many hours are chosen, with that of now, where more are given.
+    pub hours: u8,
+    /// How many hours are made for what was not seen, as far as 32 hours leave room.
+    pub made: u8,
+}
+
 /// What the program is asked to do.
-#[derive(Clone, Copy)]
+#[derive(Drop)]
 pub struct PlanSettings<'a> {
-    /// The folder that `ceph/collect` wrote.
+    /// The folder that `ceph/collect` wrote now.
     pub folder: &'a str,
+    /// The other hours.
+    pub past: HoursAsked<'a>,
     /// Into how many parts the directories are divided.
     pub parts: PartCount,
     /// By how many percent a load may pass the greatest so that a part stays where it is.
@@ -59,6 +74,8 @@ pub struct PlanSettings<'a> {
     pub pins: Option<&'a str>,
     /// Whether that script pins subvolumes and their groups by Ceph's own commands.
     pub subvolumes: bool,
+    /// Where the record of now goes, that stands for its folder in a later run.
+    pub record_to: Option<&'a str>,
     /// Where the picture goes.
     pub svg: Option<&'a str>,
     /// Where the directories go as a script of `mdbal`.
@@ -183,6 +200,25 @@ const OPTIONS: &[PlanOption] = &[
         help: "A list of directories, one a line: none of them moves, nor anything below or above them",
     },
     PlanOption {
+        name: "hours",
+        default: Some("24"),
+        value: Some("N"),
+        help: "How many hours are planned for, with that of now, where more DIRs are given, 1 to 32",
+    },
+    PlanOption {
+        name: "made",
+        default: Some("0"),
+        value: Some("N"),
+        help: "How many hours are made for load that was not seen, 0 to 31, as far as 32 hours leave room: in each, \
+               half of the load lies below one directory",
+    },
+    PlanOption {
+        name: "record",
+        default: None,
+        value: Some("FILE"),
+        help: "Write the heat of the last DIR to FILE, which stands for that DIR in later runs",
+    },
+    PlanOption {
         name: "mount",
         default: Some("/mnt/cephfs"),
         value: Some("PATH"),
@@ -258,7 +294,10 @@ fn folder_arg<'a>(alloc: Global) -> Arg<'a>
     Arg::new(alloc, "folder")
         .value_name("DIR")
         .required(true)
-        .help("What ceph/collect wrote")
+        .action(ArgAction::Append)
+        .help(
+            "What ceph/collect wrote: the last is now, those before are earlier hours or their records, oldest first",
+        )
 }
 
 /// The program's command without its arguments, as `clap` knows it.
@@ -306,71 +345,6 @@ fn command<'a>(alloc: Global) -> Result<Command<'a>, AllocError>
     with_options(alloc, command, options())
 }
 
-/// The number of parts that a text names.
-fn count_of(text: &str, refused: &'static str) -> Result<u16, &'static str>
-    ensures { IfOk result (λ count. count ≡ option_number text.now) }
-{
-    match text.parse::<u16>() {
-        Ok(count) if 0 < count => Ok(count),
-        _ => Err(refused),
-    }
-}
-
-/// Into how many parts the directories are divided, where `most` is the most that `auto` tries.
-fn parts_of(text: &str, most: &str) -> Result<PartCount, &'static str>
-    ensures { IfOk result (λ parts. parts ≡ parts_named text.now most.now) }
-{
-    let most = count_of(most, "--most-pins takes a number from 1 to 65535")?;
-    if text == "auto" {
-        return Ok(PartCount::Auto(most));
-    }
-    let count = count_of(text, "--parts takes auto, or a number from 1 to 65535")?;
-    Ok(PartCount::AtMost(count))
-}
-
-/// The percentage that a text names.
-fn percent_of(text: &str) -> Result<u8, &'static str>
-    ensures { IfOk result (λ percent. percent ≡ option_number text.now) }
-{
-    match text.parse::<u8>() {
-        Ok(percent) => Ok(percent),
-        Err(_) => Err("a percentage is a number from 0 to 255"),
-    }
-}
-
-/// The heat that a text names, in thousandths.
-fn heat_of(text: &str, refused: &'static str) -> Result<u64, &'static str>
-    ensures { IfOk result (λ heat. heat ≡ option_number text.now * 1000) }
-{
-    match text.parse::<u32>() {
-        Ok(heat) => Ok(u64::from(heat) * 1000),
-        Err(_) => Err(refused),
-    }
-}
-
-/// The heat that a text names, in thousandths, if there is one.
-fn heat_if_any(text: Option<&str>, refused: &'static str) -> Result<Option<u64>, &'static str>
-    ensures { IfOk result (λ heat. heat ≡ heat_named (option_map (λ text. text.now) text.entry)) }
-{
-    match text {
-        Some(text) => Ok(Some(heat_of(text, refused)?)),
-        None => Ok(None),
-    }
-}
-
-/// The number of inodes that a text names, if there is one.
-fn inodes_if_any(text: Option<&str>) -> Result<Option<u64>, &'static str>
-    ensures { IfOk result (λ inodes. inodes ≡ inodes_named (option_map (λ text. text.now) text.entry)) }
-{
-    let Some(text) = text else {
-        return Ok(None);
-    };
-    match text.parse::<u32>() {
-        Ok(inodes) => Ok(Some(u64::from(inodes))),
-        Err(_) => Err("--most-inodes takes a whole number"),
-    }
-}
-
 /// What a plan has to come to.
 fn least_of(matches: &ArgMatches<'_>) -> Result<Least, &'static str>
     ensures { IfOk result (λ least. least ≡ least_named (rows_of (found_of matches.now))) }
@@ -388,63 +362,50 @@ fn least_of(matches: &ArgMatches<'_>) -> Result<Least, &'static str>
     })
 }
 
-/// The ranks that a mask names, where one is given.
-fn mask_of(text: Option<&str>) -> Result<Option<RankSet>, &'static str>
-    ensures { IfOk result (λ mask. mask ≡ mask_named (option_map (λ text. text.now) text.entry)) }
+/// The folder of now, and the other hours, where the words name these folders.
+fn hours_asked<'a>(
+    matches: &ArgMatches<'a>,
+    folders: Vec<&'a str>,
+) -> Result<(&'a str, HoursAsked<'a>), &'static str>
+    ensures { map (λ text. text.now) folders.entry.items ≡ folders_named (rows_of (found_of matches.now))
+        → IfOk result (λ asked. IsPastNamed (rows_of (found_of matches.now)) asked.0.now asked.1) }
 {
-    let Some(text) = text else {
-        return Ok(None);
+    let mut earlier = folders;
+    let Some(folder) = earlier.pop() else {
+        return Err("a DIR is missing");
     };
-    match mask_named(text) {
-        Some(mask) => Ok(Some(mask)),
-        None => Err("--mask takes all, -1 as in --mask=-1, or 1 to 16 hexadecimal digits"),
-    }
+    let past = HoursAsked {
+        earlier,
+        hours: hours_of(value_or(matches, "hours", "24"))?,
+        made: made_of(value_or(matches, "made", "0"))?,
+    };
+    Ok((folder, past))
 }
 
-/// Where the file system is mounted: an absolute path.
-fn mount_of(text: &str) -> Result<&str, &'static str>
-    ensures { IfOk result (λ mount. mount.now ≡ text.now) }
+/// Whether earlier hours are given where only one folder is looked at.
+fn has_needless_past(settings: &PlanSettings) -> bool
+    ensures { result ≡ ((is_some settings.now.check || settings.now.paths0)
+        && nat_lt 0 (length settings.now.past.earlier.items)) }
 {
-    match text.as_bytes() {
-        [b'/', ..] => Ok(text),
-        _ => Err("--mount takes an absolute path"),
-    }
+    (settings.check.is_some() || settings.paths0) && !settings.past.earlier.is_empty()
 }
 
-/// The value of an option, if it is there or has a default.
-fn value_of<'a>(matches: &ArgMatches<'a>, option: &str) -> Option<&'a str>
-    ensures { option_map (λ text. text.now) result ≡ first_of option.now (rows_of (found_of matches.now)) }
-{
-    matches.get_str(option)
-}
-
-/// Whether the words have this option, which takes no value.
-fn has_flag(matches: &ArgMatches<'_>, option: &str) -> bool
-    ensures { IsFlag (rows_of (found_of matches.now)) option.now result }
-{
-    matches.get_flag(option)
-}
-
-/// The value of an option, or this text where the option isn't there.
-fn value_or<'a>(matches: &ArgMatches<'a>, option: &str, other: &'static str) -> &'a str
-    ensures { result.now ≡ value_or (rows_of (found_of matches.now)) option.now other.now }
-{
-    match value_of(matches, option) {
-        Some(value) => value,
-        None => other,
-    }
-}
-
-/// The settings that were found.
-fn found<'a>(matches: &ArgMatches<'a>) -> Result<PlanSettings<'a>, &'static str>
-    ensures { IfOk result (AreRead (rows_of (found_of matches.now))) }
+/// The settings that were found, where the words name these folders.
+fn found<'a>(
+    matches: &ArgMatches<'a>,
+    folders: Vec<&'a str>,
+) -> Result<PlanSettings<'a>, &'static str>
+    ensures { map (λ text. text.now) folders.entry.items ≡ folders_named (rows_of (found_of matches.now))
+        → IfOk result (AreRead (rows_of (found_of matches.now))) }
 {
     let mask = mask_of(value_of(matches, "mask"))?;
     let most = value_or(matches, "most-pins", "10000");
     let parts = parts_of(value_or(matches, "parts", "auto"), most)?;
     let keep = percent_of(value_or(matches, "keep", "5"))?;
+    let (folder, past) = hours_asked(matches, folders)?;
     Ok(PlanSettings {
-        folder: value_or(matches, "folder", "."),
+        folder,
+        past,
         parts,
         keep,
         most_inodes: inodes_if_any(value_of(matches, "most-inodes"))?,
@@ -456,11 +417,27 @@ fn found<'a>(matches: &ArgMatches<'a>) -> Result<PlanSettings<'a>, &'static str>
         mount: mount_of(value_or(matches, "mount", "/mnt/cephfs"))?,
         pins: value_of(matches, "pins"),
         subvolumes: has_flag(matches, "subvolumes"),
+        record_to: value_of(matches, "record"),
         svg: value_of(matches, "svg"),
         script: value_of(matches, "script"),
         is_json: has_flag(matches, "json"),
         paths0: has_flag(matches, "paths0"),
     })
+}
+
+/// The settings that were found, where they fit together.
+fn fitting<'a>(
+    matches: &ArgMatches<'a>,
+    folders: Vec<&'a str>,
+) -> Result<PlanSettings<'a>, &'static str>
+    ensures { map (λ text. text.now) folders.entry.items ≡ folders_named (rows_of (found_of matches.now))
+        → IfOk result (λ settings. AreRead (rows_of (found_of matches.now)) settings × FitTogether settings) }
+{
+    let settings = found(matches, folders)?;
+    if has_needless_past(&settings) {
+        return Err("--check and --paths0 take one DIR");
+    }
+    Ok(settings)
 }
 
 /// What `clap` finds in the words.
@@ -479,11 +456,15 @@ pub fn settings_of<'a, S: AsStr>(alloc: Global, words: &'a [S]) -> Result<PlanSe
     ensures settings { IfOk result (AreSettings (map S.text words.entry.now)) }
     ensures refused { IfErr result (GivesNoSettings (map S.text words.entry.now)) }
 {
-    match found_in(alloc, words) {
-        Err(error) => Err(Refused::Words(error)),
-        Ok(matches) => match found(&matches) {
-            Ok(settings) => Ok(settings),
-            Err(option) => Err(Refused::Value(option)),
-        },
+    let matches = match found_in(alloc, words) {
+        Ok(matches) => matches,
+        Err(error) => return Err(Refused::Words(error)),
+    };
+    let Ok(folders) = folders_of(alloc, &matches) else {
+        return Err(Refused::Words(OptionsError::Memory));
+    };
+    match fitting(&matches, folders) {
+        Ok(settings) => Ok(settings),
+        Err(option) => Err(Refused::Value(option)),
     }
 }

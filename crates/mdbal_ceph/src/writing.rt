@@ -4,7 +4,9 @@ ghost use Rattle.ceph_pins.specs.PinsScript.{pins_script};
 ghost use Rattle.ceph_report.specs.Staying.{AreStays};
 ghost use Rattle.mdbal_ceph.specs.Writing.{AreFacts, ArePinFiles, IsTold, IsWritten};
 ghost use Rattle.mdbal_ceph.specs.Writing.{IsDriverText, gain_of, identity_of, least_for, plan_status};
-ghost use Rattle.mdbal_ceph.specs.Writing.{proposed_changes};
+ghost use Rattle.mdbal_ceph.specs.Hours.{load_now};
+ghost use Rattle.mdbal_ceph.specs.Writing.{as_now, bound_now, other_now, other_planned, proposed_changes, worst_now};
+ghost use Rattle.mdbal_ceph.specs.Writing.{worst_planned};
 
 use crate::driver_plan::make_driver_text;
 use crate::outcome::Outcome;
@@ -16,8 +18,8 @@ use ceph_pins::{
 };
 use ceph_plan::{Gain, LeastGain, PinChange, is_worth_it};
 use ceph_report::{
-    Facts, Move, Roots, Stay, hottest, inodes_brought, make_json, make_picture, make_report,
-    make_script, moves_of, roots_of, stays_of,
+    Facts, Move, PlannedHour, Roots, Stay, hottest, inodes_brought, make_json, make_picture,
+    make_report, make_script, moves_of, roots_of, stays_of,
 };
 use ceph_snapshot::Directory;
 use mds_types::RankSet;
@@ -45,6 +47,8 @@ pub struct PlanOutput {
     pub is_proposed: bool,
     /// The files of `--pins`, where it is given.
     pub pins: Option<PinFiles>,
+    /// The record of now, where `--record` is given.
+    pub hour_record: Option<Vec<u8>>,
     /// The picture, where `--svg` is given.
     pub picture: Option<Vec<u8>>,
     /// The directories as a script of `mdbal`, where `--script` is given.
@@ -60,17 +64,96 @@ impl PlanOutput {
     }
 }
 
-/// What the plan of an outcome comes to. Its heat is that of the hottest rank now.
+/// The load of each rank in the hour of now, as planned.
+fn load_now(hours: &[PlannedHour]) -> &[u64]
+    ensures { result.now ≡ load_now hours.now }
+{
+    match hours.first() {
+        Some(hour) => &hour.planned,
+        None => &[],
+    }
+}
+
+/// A heat in an hour with this bound, as it counts beside one of now, and rounded up.
+fn as_now(heat: u64, bound: u64, bound_now: u64) -> u64
+    ensures { result ≡ as_now heat bound bound_now }
+{
+    if bound == 0 {
+        return heat;
+    }
+    let whole = u128::from(heat) * u128::from(bound_now) + u128::from(bound - 1);
+    u128::from(u64::MAX).min(whole / u128::from(bound)) as u64
+}
+
+/// What the bound of the hour of now is.
+fn bound_now(hours: &[PlannedHour]) -> u64
+    ensures { result ≡ bound_now hours.now }
+{
+    match hours.first() {
+        Some(hour) => hour.bound,
+        None => 0,
+    }
+}
+
+/// The heat of the hottest rank in the earlier hour at a place, where each directory is now, as it counts beside one of
+/// now; 0 of the hour of now, and of one that was made.
+fn other_now(hours: &[PlannedHour], at: usize) -> u64
+    ensures { result ≡ other_now hours.now at }
+{
+    match hours.get(at) {
+        Some(hour) if at > 0 && hour.is_seen => {
+            as_now(hottest(&hour.now), hour.bound, bound_now(hours))
+        }
+        _ => 0,
+    }
+}
+
+/// The same as planned.
+fn other_planned(hours: &[PlannedHour], at: usize) -> u64
+    ensures { result ≡ other_planned hours.now at }
+{
+    match hours.get(at) {
+        Some(hour) if at > 0 && hour.is_seen => {
+            as_now(hottest(&hour.planned), hour.bound, bound_now(hours))
+        }
+        _ => 0,
+    }
+}
+
+/// The greatest of these over the earlier hours.
+fn worst_now(hours: &[PlannedHour]) -> u64
+    ensures { result ≡ worst_now hours.now }
+{
+    let mut greatest = 0;
+    for at in 0..hours.len() {
+        greatest = other_now(hours, at).max(greatest);
+    }
+    greatest
+}
+
+/// The same as planned.
+fn worst_planned(hours: &[PlannedHour]) -> u64
+    ensures { result ≡ worst_planned hours.now }
+{
+    let mut greatest = 0;
+    for at in 0..hours.len() {
+        greatest = other_planned(hours, at).max(greatest);
+    }
+    greatest
+}
+
+/// What the plan of an outcome comes to in the worst of the hours that were seen. Its heat is that of the hottest rank
+/// now.
 fn gain_of(outcome: &Outcome) -> Gain
     ensures { result ≡ gain_of outcome.now }
 {
-    let now = hottest(&outcome.decision.sums.now);
-    let plan = &outcome.decision.proposal.plan;
+    let heat = hottest(&outcome.decision.sums.now);
+    let hours = outcome.decision.hours.as_slice();
     Gain {
-        heat: now,
-        now,
-        planned: hottest(&plan.packing.load),
-        moved: plan.moved,
+        heat,
+        now: worst_now(hours).max(heat),
+        planned: worst_planned(hours).max(hottest(load_now(hours))),
+        moved: outcome.decision.proposal.plan.moved,
     }
 }
 
@@ -113,6 +196,9 @@ fn facts_of<'a>(
         ranks: outcome.ranks,
         balances: outcome.balances,
         plan: &outcome.decision.proposal.plan,
+        planned: load_now(&outcome.decision.hours),
+        hours: &outcome.decision.hours,
+        left_hours: &outcome.decision.left,
         bound: outcome.bound,
         sums: &outcome.decision.sums,
         pinned: &outcome.decision.pinned,
@@ -249,8 +335,10 @@ pub fn written(
     alloc: Global,
     settings: &PlanSettings,
     outcome: &Outcome,
+    hour_record: Option<Vec<u8>>,
 ) -> Result<PlanOutput, Error>
-    ensures { IfOk result (IsWritten settings.now outcome.now) }
+    ensures written { IfOk result (IsWritten settings.now outcome.now) }
+    ensures hour_record { IfOk result (λ output. output.hour_record ≡ hour_record) }
 {
     let (gain, least) = (gain_of(outcome), least_for(settings.least, outcome.ranks));
     let (is_worth, is_idle) = (is_worth_it(gain, least), gain.heat < least.heat);
@@ -281,6 +369,7 @@ pub fn written(
         text,
         is_proposed,
         pins,
+        hour_record,
         picture,
         script,
     })

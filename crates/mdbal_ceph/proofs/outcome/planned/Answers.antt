@@ -1,17 +1,63 @@
-use Rattle.std.proofs.Common.{◌≡◌, ◌≤◌, ◌^◌, ℕ, List, arith, length, slice_index, subst, sym}
+use Rattle.std.proofs.Common.{◌≡◌, ◌≤◌, ◌^◌, ◌∙◌, ℕ, Bool, List, ap, arith, false, length, slice_index, subst, sym, true}
+use Rattle.std.specs.Prelude.{Vec}
+use Rattle.std.specs.Global.{Global}
+use Rattle.mds_types.specs.RankSet.{has_rank}
 use Rattle.mds_types.specs.Sums.{sum_below}
 use Rattle.ceph_dumps.specs.PathList.{path_bytes}
+use Rattle.ceph_folding.specs.Folding.{AreHeatsLeft}
 use Rattle.ceph_snapshot.specs.declared.directory.Directory.{Directory}
-use Rattle.ceph_plan.specs.declared.choice.Wanted.{Wanted}
 use Rattle.ceph_plan.specs.Packing.{ArePlanRanks, IsAsGreat, IsBoundOf}
-use Rattle.mdbal_ceph.specs.Outcomes.{AreFreeHeats, IsBoundOfAll, IsDecision}
+use Rattle.mdbal_ceph.specs.Hours.{ArePastHours, IsSeenAt}
+use Rattle.mdbal_ceph.specs.Outcomes.{AreFreeHeats, AreUnitHours, IsBoundOfAll, IsDecision}
+use Rattle.mdbal_ceph.specs.declared.hours.PastHour.{PastHour}
 use Rattle.mdbal_ceph.specs.declared.outcome.Decision.{Decision}
+use Rattle.mdbal_ceph.specs.declared.past.EarlierHour.{EarlierHour}
+use Rattle.mdbal_ceph.specs.declared.planning.PlanAsked.{PlanAsked}
 use Rattle.mdbal_ceph.proofs.Kept.{kept_through}
+use Rattle.mdbal_ceph.proofs.PastHours.{past_sizes, past_spreads, same_length}
+use Rattle.mdbal_ceph.proofs.PresentPinned.{present_pinned}
 use Rattle.mdbal_ceph.proofs.outcome.planned.Goals as goal
+
+pub folded-requires : goal.folded-requires
+folded-requires c = c.in_ok-units.ensures.sizes
+
+-- as many hours at the directories that are planned one by one
+unit_count : (subvolumes : Bool) (collected units : List Directory) (hours left : List (Vec ℕ Global)) → AreUnitHours subvolumes collected units hours left → length left ≡ length hours
+unit_count false collected units hours left are = ap length are
+unit_count true collected units hours left are = same_length (λ (hour one : Vec ℕ Global). AreHeatsLeft are.0 are.1 hour.items one.items) hours left are.3
+
+pub past_hours-requires : goal.past_hours-requires
+past_hours-requires c =
+    let hours : List (Vec ℕ Global) = c.in_ok-hours.hours.items in
+    let at_units : List (Vec ℕ Global) = c.units.new.hours.items in
+    let at_directories : List (Vec ℕ Global) = c.folded.new.hours.items in
+    let folded = c.in_ok-directories.ensures.hours in
+    ap length c.deref-7.ensures.value
+    ∙ (same_length (λ (hour one : Vec ℕ Global). AreHeatsLeft folded.0 folded.1 hour.items one.items) at_units at_directories folded.3
+    ∙ (unit_count _ _ _ hours at_units c.in_ok-units.ensures.hours
+    ∙ same_length (λ (hour : EarlierHour) (heats : Vec ℕ Global). IsSeenAt c.deref.result.now hour.kept heats) c.args.earlier.now hours c.in_ok-hours.ensures.each))
+
+pub decided-requires-clause-heats : goal.decided-requires-clause-heats
+decided-requires-clause-heats c =
+    let past : ArePastHours c.args.earlier.now c.folded.new.hours.items c.in_ok-past.past.items =
+    record { heats_are = rw c.deref-7.ensures.value at c.in_ok-past.ensures.heats; spread = c.in_ok-past.ensures.spread } in
+    rw (c.deref-9.ensures.value, c.deref-11.ensures.value)
+    (past_sizes (length c.in_ok-directories.directories.items) c.args.earlier.now c.folded.new.hours.items c.in_ok-past.past.items past c.in_ok-directories.ensures.sizes)
+
+pub decided-requires-clause-spreads : goal.decided-requires-clause-spreads
+decided-requires-clause-spreads c =
+    let past : ArePastHours c.args.earlier.now c.folded.new.hours.items c.in_ok-past.past.items =
+    record { heats_are = rw c.deref-7.ensures.value at c.in_ok-past.ensures.heats; spread = c.in_ok-past.ensures.spread } in
+    rw c.deref-11.ensures.value (past_spreads c.args.earlier.now c.folded.new.hours.items c.in_ok-past.past.items past c.requires.spread)
 
 pub heats_bound-bound-requires : goal.heats_bound-bound-requires
 heats_bound-bound-requires c =
-    subst (ArePlanRanks c.in_ok-ranks.ranks) (sym c.deref-9.ensures.value) c.in_ok-decision.ensures.planned.proposed.chosen.plannable.ranks_are
+    let planned = c.in_ok-decision.ensures.planned in
+    let plan = planned.plan in
+    subst (ArePlanRanks c.in_ok-ranks.ranks) (sym c.deref-13.ensures.value) (record {
+      zero = subst (λ ranks. has_rank ranks 0 ≡ true) c.asked_by-asked.ensures.ranks plan.found_is.proposal.chosen.plannable.zero;
+      held = present_pinned _ _ planned.rows _ _ planned.given _ _ _ _ plan.chosen plan.made plan.planned plan.weights planned.given_are plan.chosen_are plan.planned_are plan.found_is.countable;
+    })
 
 -- the bound of what was collected
 bound_of_all : (collected : List Directory) (heats those pinned held : List ℕ) (ranks bound : ℕ) → AreFreeHeats collected heats → those ≡ heats → held ≡ pinned
@@ -35,6 +81,8 @@ returns-clause-outcome c =
     let heats : List ℕ = c.in_ok-heats.heats.items in
     let leave : List (List ℕ) = path_bytes c.args.leave.now in
     let decision : Decision = c.in_ok-decision.decision in
+    let past : List PastHour = c.in_ok-past.past.items in
+    let asked : PlanAsked = c.asked_by-asked.result in
     record {
       units = c.in_ok-units.units.items;
       each = c.in_ok-units.ensures.units;
@@ -42,22 +90,40 @@ returns-clause-outcome c =
       same = c.in_ok-directories.ensures.same;
       folded = c.in_ok-directories.ensures.folded;
       count = omega (arith, c.in_ok-directories.ensures.count, c.in_ok-units.ensures.count);
-      unpinnable = kept_through collected c.in_ok-units.units.items directories c.requires.kept c.in_ok-units.ensures.kept c.in_ok-directories.ensures.kept;
+      unpinnable = kept_through collected c.in_ok-units.units.items directories c.requires.snapshot.kept c.in_ok-units.ensures.kept c.in_ok-directories.ensures.kept;
+      past = past;
+      past_are = record {
+        seen = c.in_ok-hours.hours.items;
+        seen_are = rw c.deref.ensures.value at c.in_ok-hours.ensures.each;
+        at_units = c.units.new.hours.items;
+        at_units_are = c.in_ok-units.ensures.hours;
+        heats = c.folded.new.hours.items;
+        heats_are = c.in_ok-directories.ensures.hours;
+        are = record { heats_are = rw c.deref-7.ensures.value at c.in_ok-past.ensures.heats; spread = c.in_ok-past.ensures.spread };
+      };
+      asked = asked;
+      asked_is = record {
+        wanted_is = c.asked_by-asked.ensures.wanted;
+        ranks_are = c.asked_by-asked.ensures.ranks;
+        names = rw (c.asked_by-asked.ensures.names, c.deref-8.ensures.value) c.in_ok-names.ensures;
+        chosen = c.asked_by-asked.ensures.chosen;
+        made = c.asked_by-asked.ensures.made;
+      };
       decided =
-          subst (λ (wanted : Wanted). IsDecision directories spread leave c.in_ok-ranks.ranks wanted decision) c.wanted_by-wanted.ensures
-          (subst (λ (heats : List ℕ). IsDecision directories heats leave c.in_ok-ranks.ranks c.wanted_by-wanted.result decision) c.deref-7.ensures.value
-          (subst (λ (others : List Directory). IsDecision others c.deref-7.result.now leave c.in_ok-ranks.ranks c.wanted_by-wanted.result decision) c.deref-6.ensures.value c.in_ok-decision.ensures));
+          subst (λ (others : List PastHour). IsDecision directories spread leave others asked decision) c.deref-11.ensures.value
+          (subst (λ (heats : List ℕ). IsDecision directories heats leave c.deref-11.result.now asked decision) c.deref-10.ensures.value
+          (subst (λ (others : List Directory). IsDecision others c.deref-10.result.now leave c.deref-11.result.now asked decision) c.deref-9.ensures.value c.in_ok-decision.ensures));
       hottest = record {
         heats = heats;
-        are = subst (λ (those : List Directory). AreFreeHeats those heats) c.deref.ensures.value c.in_ok-heats.ensures;
-        is = rw (c.deref-2.ensures.value, c.deref-3.ensures.value) at c.in_ok-hottest.ensures;
+        are = subst (λ (those : List Directory). AreFreeHeats those heats) c.deref-2.ensures.value c.in_ok-heats.ensures;
+        is = rw (c.deref-3.ensures.value, c.deref-4.ensures.value) at c.in_ok-hottest.ensures;
       };
       advice = record {
         heats = heats;
-        are = subst (λ (those : List Directory). AreFreeHeats those heats) c.deref.ensures.value c.in_ok-heats.ensures;
-        is = rw (c.deref-4.ensures.value, c.deref-5.ensures.value) at c.in_ok-advice.ensures;
+        are = subst (λ (those : List Directory). AreFreeHeats those heats) c.deref-2.ensures.value c.in_ok-heats.ensures;
+        is = rw (c.deref-5.ensures.value, c.deref-6.ensures.value) at c.in_ok-advice.ensures;
       };
-      bound = bound_of_all collected heats c.deref-8.result.now decision.pinned.items c.deref-9.result.now c.in_ok-ranks.ranks c.heats_bound-bound.result
-          (subst (λ (those : List Directory). AreFreeHeats those heats) c.deref.ensures.value c.in_ok-heats.ensures) c.deref-8.ensures.value c.deref-9.ensures.value
+      bound = bound_of_all collected heats c.deref-12.result.now decision.pinned.items c.deref-13.result.now c.in_ok-ranks.ranks c.heats_bound-bound.result
+          (subst (λ (those : List Directory). AreFreeHeats those heats) c.deref-2.ensures.value c.in_ok-heats.ensures) c.deref-12.ensures.value c.deref-13.ensures.value
           c.heats_bound-bound.ensures.lower c.heats_bound-bound.ensures.three;
     }

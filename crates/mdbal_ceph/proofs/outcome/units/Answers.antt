@@ -6,6 +6,7 @@ use Rattle.ceph_snapshot.specs.Holding.{is_marked}
 use Rattle.ceph_snapshot.specs.Policies.{dir_path_at}
 use Rattle.ceph_snapshot.specs.declared.directory.Directory.{Directory}
 use Rattle.mdbal_ceph.specs.Outcomes.{AreUnits}
+use Rattle.mdbal_ceph.proofs.PastHours.{folded_sizes}
 use Rattle.mdbal_ceph.proofs.outcome.units.Goals as goal
 
 -- by marks that say of each directory whether it is a unit
@@ -27,3 +28,8 @@ returns-clause-units c =
     let left = rw (c.deref-2.ensures.value) at c.fold_to_units.ensures.units in
     rw (c.if-not-subvolumes.false) (IfOk-weaker c.fold_to_units.result _ _
     (λ found. left_by c.args.directories.items found.0.items c.in_ok-marks.marks.items same) left)
+
+pub returns-clause-sizes : goal.returns-clause-sizes
+returns-clause-sizes c =
+    IfOk-weaker c.fold_to_units.result _ _
+    (λ found folded. folded_sizes c.args.directories.items found.0.items c.args.hours.now.items c.fold_to_units.new.hours.items folded c.requires) c.fold_to_units.ensures.hours
