@@ -6,6 +6,7 @@
   rounds/N   dumps, own (of before), report, plan.json, pins.sh, pins.sh.back, pins.sh.own, pins.sh.plan, log (all that mdbal_drive
              asked); after the last pin check (dumps without loads), held (what mdbal_ceph --check says of them), and empty
              (directories that move once they have an entry)
+  hours/N    the heat of round N, as mdbal_ceph --record writes it; those of the last 168 rounds
   history    a line a round: time, round, status, what happened
 """
 import fcntl
@@ -17,12 +18,13 @@ import signal
 import subprocess
 import sys
 import time
-from typing import Any, Dict, List, Tuple
+from typing import Any, Dict, List, Set, Tuple
 
 from host import unescaped
 
 HERE = os.path.dirname(os.path.realpath(__file__))
 SIGNALS = (signal.SIGHUP, signal.SIGINT, signal.SIGTERM)
+HOURS = 168  # of so many rounds the heat is kept
 Pins = Dict[bytes, List[bytes]]  # the ranks of a directory's pin, by its path as in lists of pins
 
 
@@ -82,6 +84,27 @@ def settled(pins: Pins, dumps: str) -> Pins:
     """The same, where a directory may have one of two pins with the one that it has."""
     found = attribute(dumps, "ceph.dir.pin", pins)
     return {place: [it for it in ranks if len(ranks) == 1 or found.get(place, it) == it][-1:] for place, ranks in pins.items()}
+
+
+def past_hours(state: str, dumps: str) -> List[str]:
+    """The records of the heat of earlier rounds, oldest first. One that has none of the directories that are there now is left out."""
+    with open(f"{dumps}/dirs", "rb") as it:
+        known = {b"/" + line[8:].rstrip(b"\n") for line in it if line.startswith(b"# file: ")}
+    found = [f"{state}/hours/{number}" for number in sorted(map(int, os.listdir(f"{state}/hours")))]
+    return [it for it in found if is_of(it, known)]
+
+
+def is_of(record: str, known: Set[bytes]) -> bool:
+    """Whether a record of an hour's heat has one of these directories."""
+    with open(record, "rb") as it:
+        return any(line.rstrip(b"\n").partition(b" ")[2] in known for line in it)
+
+
+def keep_hour(state: str, record: str, number: int) -> None:
+    """Keeps the record of a round's heat, and those of the last rounds."""
+    os.rename(record, f"{state}/hours/{number}")
+    for old in sorted(map(int, os.listdir(f"{state}/hours")))[:-HOURS]:
+        os.remove(f"{state}/hours/{old}")
 
 
 class Stopped(Exception):
@@ -171,7 +194,8 @@ def on_signal(*_: Any) -> None:
 def carried_out(kind: Any, asked: Any) -> int:
     """The status of a round of this kind; 5 where another round is running."""
     os.umask(0o077)
-    os.makedirs(f"{asked.state}/rounds", exist_ok=True)
+    for name in ("rounds", "hours"):
+        os.makedirs(f"{asked.state}/{name}", exist_ok=True)
     with open(f"{asked.state}/lock", "w", encoding="ascii") as lock:
         try:
             fcntl.flock(lock, fcntl.LOCK_EX | fcntl.LOCK_NB)
