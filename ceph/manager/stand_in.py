@@ -11,7 +11,7 @@ import types
 from typing import Any, Dict, Iterator, List, Optional, Set, Tuple
 
 NO_PIN = -1
-GET = {'get subtrees', 'dump loads', 'scrub status', 'config get', 'perf dump'}
+GET = {'export dir', 'get subtrees', 'dump loads', 'scrub status', 'config get', 'perf dump'}
 
 
 class Directory:
@@ -69,6 +69,7 @@ class Cluster:
                     it.inode = int(entry['dirfrag'].split('.')[0], 16)
         self.directories[b''].inode = 1
         self.moved = {}       # type: Dict[bytes, int]  # pins that were set, by path
+        self.exported = {}    # type: Dict[bytes, int]  # directories that were moved without a pin
         self.slow_looks = 0   # so many looks at roots find the last pin's directory under way
         self.checks = {}      # type: Dict[str, Any]
         self.kept = {}        # type: Dict[str, str]  # the store of the monitors
@@ -89,6 +90,8 @@ class Cluster:
 
     def subtrees(self, rank: int) -> bytes:
         found = [it for it in self.roots[rank] if it['dir']['path'].encode('latin-1') not in self.moved]
+        found = [it for it in found if it['dir']['path'].encode('latin-1') not in self.exported]
+        found += [root_at(path, at) for path, at in self.exported.items() if at == rank]
         slow, self.slow_looks = self.slow_looks, max(0, self.slow_looks - 1)
         for path, pin in self.moved.items():
             at = pin if pin in self.roots else 0
@@ -104,6 +107,11 @@ class Cluster:
         self.asked.append('{} {}'.format(rank, what))
         if what == 'get subtrees':
             return self.subtrees(rank)
+        if what == 'export dir':
+            if command['path'].encode() in self.refuse:
+                return json.dumps({'return_code': -errno.EINVAL}).encode()
+            self.exported[command['path'].encode()] = int(command['rank'])
+            return json.dumps({'return_code': 0}).encode()
         if what == 'dump loads':
             self.taken[rank] += 1
             return self.loads[rank][(self.taken[rank] - 1) % len(self.loads[rank])]
@@ -112,6 +120,12 @@ class Cluster:
         if what == 'config get':
             return json.dumps({'mds_bal_interval': self.interval}).encode()
         return json.dumps({'mds_mem': {'dir': self.cached}}).encode()
+
+
+def root_at(path: bytes, rank: int) -> Dict[str, Any]:
+    """A root of a subtree without a pin, as a rank that has it prints it."""
+    return {'is_auth': True, 'auth_first': rank, 'auth_second': -2, 'export_pin': NO_PIN, 'distributed_ephemeral_pin': False,
+            'random_ephemeral_pin': False, 'export_pin_target': -1, 'dir': {'path': path.decode('latin-1')}}
 
 
 # cephfs
@@ -232,6 +246,9 @@ class MgrModule:
         cluster = self.cluster
         return {'fs_map': {'filesystems': [{'id': cluster.id, 'mdsmap': json.loads(json.dumps(cluster.map))}]},
                 'mon_map': {'fsid': cluster.fsid}, 'health': {'json': json.dumps({'checks': cluster.checks})}}[what]
+
+    def get_mgr_id(self) -> str:
+        return 'x'
 
     def have_mon_connection(self) -> bool:
         return bool(self.cluster.has_monitors)

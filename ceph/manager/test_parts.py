@@ -5,6 +5,7 @@ from typing import Any, List, Optional
 import stand_in
 from on_sample import SAMPLE
 
+from mdbal.hours import HEAD, HOUR, NEWEST, WEEK, due, packed, unpacked
 from mdbal.rounds import Watch
 from mdbal.state import CHUNK, State, Store
 from mdbal.texts import Trouble, escaped, id_of, listed, own_pins, unescaped
@@ -26,6 +27,41 @@ class Texts(unittest.TestCase):
         text = "mdbal_pins 1\nplan x\nmark 3 1\nchanges 4\nchange 5 - 1 1 /a\nchange 6 2 - 1 /b\nchange 7 - 1 1 /c\nchange 8 - 1 1 /d\npins 2\npin 6 2 /b\npin 9 0 /e\nend\n"
         self.assertEqual(own_pins(text, {b"/b": -1, b"/c": 1}.get), {b"/a": 1, b"/c": 1, b"/e": 0})
         self.assertEqual(own_pins(text, {b"/b": 2, b"/c": -1}.get), {b"/a": 1, b"/b": 2, b"/e": 0})
+
+
+class Records(unittest.TestCase):
+    """The heat of earlier hours."""
+
+    @staticmethod
+    def record(count: int) -> bytes:
+        rows = [b"%d /volumes/group/%08x/%d\n" % (1 + it * 7919 % count, it * 2654435761 % 2**32, it) for it in range(count)]
+        return b"".join([b"mdbal-hour 1\n", b"lab 0d2c6f0e\n", b"0\n"] + rows)
+
+    def test_small_record_is_kept_whole(self) -> None:
+        for count in (0, 1, 500):
+            self.assertEqual(unpacked(packed(self.record(count))), self.record(count))
+
+    def test_large_record_keeps_the_hottest_in_their_order(self) -> None:
+        whole = self.record(20000)
+        value = packed(whole)
+        self.assertLessEqual(len(value), CHUNK)
+        lines, kept = whole.split(b"\n")[:-1], unpacked(value).split(b"\n")[:-1]
+        self.assertEqual(kept[:HEAD], lines[:HEAD])
+        self.assertEqual(kept, [it for it in lines if it in set(kept)])
+        self.assertGreater(len(kept), 1000)
+        self.assertEqual(sorted(int(it.split()[0]) for it in kept[HEAD:]), list(range(20000 - len(kept) + HEAD + 1, 20001)))
+
+    def test_newest_stay_and_one_an_hour_for_a_week(self) -> None:
+        now = 10**9
+        times = [now - 300 * it for it in range(3000)]
+        gone = set(due(times, now))
+        left = sorted(set(times) - gone)
+        self.assertEqual(left[-NEWEST:], sorted(times)[-NEWEST:])
+        old = left[:-NEWEST]
+        self.assertEqual(len({it // HOUR for it in old}), len(old))
+        self.assertGreaterEqual(old[0], now - WEEK)
+        self.assertIn(len(old), range(WEEK // HOUR - 4, WEEK // HOUR + 1))
+        self.assertEqual(due(left, now), [])
 
 
 class Stores(unittest.TestCase):

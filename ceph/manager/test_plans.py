@@ -16,6 +16,7 @@ import stand_in
 from on_sample import ROOM, SAMPLE, TOP, OnSample
 
 from mdbal import programs
+from mdbal.hours import packed, unpacked
 from mdbal.module import Job, Module
 from mdbal.state import State
 from mdbal.texts import escaped, read_plan
@@ -37,7 +38,28 @@ class Plans(OnSample):
 
     def test_plan_changes_nothing(self) -> None:
         self.assertRegex(self.do("plan"), r"^plan: plan [0-9a-f]{12}: \d+ pins to change$")
-        self.assertEqual((self.cluster.sets, self.cluster.kept), ([], {}))
+        self.assertEqual((self.cluster.sets, [it for it in self.cluster.kept if not it.startswith("fs.7.hour.")]), ([], []))
+
+    def test_plan_is_for_the_hours_that_were_seen(self) -> None:
+        self.do("plan")
+        self.assertEqual(len(self.cluster.kept), 1)
+        key, value = self.cluster.kept.popitem()
+        rows = [it for it in unpacked(value).split(b"\n")[3:] if it]
+        other = sorted((it for it in rows if b"/" in it), key=lambda it: int(it.split(b" ")[0]))[0]
+        hot = b"%d %s" % (10**7, other.partition(b" ")[2])
+        for number, record in ((1000, rows), (2000, [hot] + rows), (3000, [b"5 /gone"])):
+            text = b"\n".join(unpacked(value).split(b"\n")[:3] + record) + b"\n"
+            self.module.set_store(f"fs.7.hour.{number}", packed(text))
+        self.do("plan")
+        told = self.record().planned.plan.told["hours"]
+        self.assertEqual([it["name"].rpartition("/")[2] for it in told if it["seen"]][1:3], ["hour.1000", "hour.2000"])
+        self.module.options["hours"] = 1
+        self.do("plan")
+        self.assertLessEqual(len(self.record().planned.plan.told.get("hours", [])), 1)
+
+    def test_record_that_can_not_be_read(self) -> None:
+        self.module.set_store("fs.7.hour.1000", "no record")
+        self.assertRegex(self.do("plan"), "the record mgr/mdbal/fs.7.hour.1000 can not be read")
 
     def test_plan_is_that_of_the_recorded_folder(self) -> None:
         plan = self.module.records["lab"]
@@ -86,6 +108,24 @@ class Plans(OnSample):
             self.assertEqual(it.read().decode(), self.module.metrics()[1])
         self.module.endpoint.use(0)
         self.assertRaises(OSError, urllib.request.urlopen, f"http://127.0.0.1:{port}/metrics")
+
+    def test_warning_where_it_stays_uneven(self) -> None:
+        self.module.options["warn_percent"] = 50
+        for seen in (False, False, True):
+            self.do("plan")
+            self.assertEqual("MDBAL_UNEVEN" in self.module.health, seen)
+        self.assertRegex(self.module.health["MDBAL_UNEVEN"]["detail"][0], r"file system lab: \d+ % above the bound at the last 3 plans")
+        self.module.options["warn_percent"] = 0
+        self.do("plan")
+        self.assertEqual(self.module.health, {})
+
+    def test_folders_of_a_killed_manager_go(self) -> None:
+        others = [tempfile.mkdtemp(prefix=it) for it in ("mdbal-", "mdbal-of another-x-")]
+        left = tempfile.mkdtemp(prefix=self.module.room())
+        self.module.clear()
+        self.assertEqual([os.path.exists(it) for it in [left, *others]], [False, True, True])
+        for it in others:
+            os.rmdir(it)
 
     # a rank that hangs
 

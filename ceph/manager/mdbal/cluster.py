@@ -75,21 +75,26 @@ class Cluster:
 
     # What ranks are asked
 
-    def tell(self, rank: int, prefix: str, **more: str) -> bytes:
+    def tell(self, whom: int, prefix: str, **more: Any) -> bytes:
+        """What a rank answers to a command."""
         command = json.dumps(dict(more, prefix=prefix, format='json'))
-        status, answer, why = self.hands.call(lambda lib: lib.mds_command('{}:{}'.format(self.fs, rank), command, b''))
+        status, answer, why = self.hands.call(lambda lib: lib.mds_command('{}:{}'.format(self.fs, whom), command, b''))
         if status != 0 or not answer:
-            raise NoAnswer('mds.{}:{} {}: {}'.format(self.fs, rank, prefix, why or 'status {}'.format(status)))
+            raise NoAnswer('mds.{}:{} {}: {}'.format(self.fs, whom, prefix, why or 'status {}'.format(status)))
         return bytes(answer)
 
-    def told(self, rank: int, prefix: str, **more: str) -> Any:
+    def told(self, whom: int, prefix: str, **more: Any) -> Any:
         """The same, read. A character is a byte of a name."""
-        return json.loads(self.tell(rank, prefix, **more).decode('latin-1'))
+        return json.loads(self.tell(whom, prefix, **more).decode('latin-1'))
 
     def roots(self, rank: int) -> Tuple[bytes, List[Root]]:
         dump = self.tell(rank, 'get subtrees')
         found = json.loads(dump.decode('latin-1'))
         return dump, sorted(Root(it['dir']['path'], it['auth_first'], it['auth_second'], it['export_pin']) for it in found if it['is_auth'])
+
+    def subtree_ranks(self) -> Dict[bytes, int]:
+        """The rank of each root of a subtree, by its path."""
+        return {root.path.encode('latin-1'): root.rank for rank in self.ranks() for root in self.roots(rank)[1]}
 
     def are_in_place(self) -> bool:
         try:

@@ -8,10 +8,12 @@ from typing import Any, Dict, List
 from . import programs
 from .cluster import Cluster
 from .collect import Collector, write
+from .hours import Hours
+from .once import Trial, why_not
 from .programs import Host, Stop
 from .record import Planned, Record
 from .state import State
-from .texts import Trouble, id_of, listed, own_pins, pins_list, unescaped
+from .texts import Trouble, id_of, listed, own_pins, pins_list, read_plan, unescaped
 
 PAUSE = 5  # seconds from one check to the next, until the pins hold
 REST = 10  # seconds in which a pin that was just set may be read as its old value
@@ -70,21 +72,27 @@ class Work:
         return words
 
     def plan(self) -> str:
-        folder = tempfile.mkdtemp(prefix='mdbal-')
+        folder = tempfile.mkdtemp(prefix=self.mgr.room())
         try:
             own, list_of_own = self.own(), os.path.join(folder, 'own')
             write(folder, 'own', pins_list(own))
             collector = Collector(self.cluster, folder, self.rest, self.say)
             collector.dumps(int(self.mgr.get_module_option('samples')), float(self.mgr.get_module_option('pause')),
                             int(self.mgr.get_module_option('most_directories')))
-            entries = collector.listing(programs.paths_of(folder, list_of_own, self.limit))
+            paths = programs.paths_of(folder, list_of_own, self.limit)
+            entries = collector.listing(paths)
             collector.end()
             self.judge(folder, own, entries)
             self.say('planning')
-            plan = programs.plan(folder, list_of_own, self.options(folder), self.limit)
+            hours = Hours(self.mgr, self.record.number)
+            count = int(self.mgr.get_module_option('hours'))
+            past = hours.write(folder, [listed(it) for it in paths]) if count > 1 else []
+            words = ['--hours', str(count)] + self.options(folder)
+            plan = programs.plan(past, folder, list_of_own, words, self.limit)
+            hours.keep(plan.hour, int(time.time()))
         finally:
             shutil.rmtree(folder, ignore_errors=True)
-        self.record.planned = Planned(plan, time.time(), self.cluster.word())
+        self.record.take_plan(Planned(plan, time.time(), self.cluster.word()))
         if not plan.is_proposed:
             return 'nothing is proposed'
         return 'plan {}: {} pins to change'.format(plan.id, len(plan.told['changes']))
@@ -104,7 +112,7 @@ class Work:
                                                 for line in lines[:-1]] or [lines[-1]]
 
     def check(self) -> str:
-        folder = tempfile.mkdtemp(prefix='mdbal-')
+        folder = tempfile.mkdtemp(prefix=self.mgr.room())
         try:
             own = self.own()
             collector = Collector(self.cluster, folder, self.rest, self.say)
@@ -132,19 +140,37 @@ class Work:
 
     def apply(self, plan_id: str) -> str:
         """Sets the pins of the last plan, or goes on with the one that was not ended."""
-        planned, state = self.record.planned, self.record.state
-        if planned and planned.plan.id == plan_id:
-            if time.time() - planned.time > float(self.mgr.get_module_option('plan_age')):
-                raise Refused('the plan {} is too old: plan again'.format(plan_id))
-            if self.cluster.word() != planned.word:
-                raise Refused('the ranks changed since the plan {}: plan again'.format(plan_id))
-            text = planned.plan.text
-        elif state.text and state.ended != 'done' and id_of(state.text) == plan_id:
+        state = self.record.state
+        if state.text and state.ended != 'done' and id_of(state.text) == plan_id and not self.is_last(plan_id):
             text = state.text
         else:
-            raise Refused('{} is not the last plan'.format(plan_id))
+            text = self.fresh(plan_id)
         self.refuse()
         return self.drive('set', text)
+
+    def is_last(self, plan_id: str) -> bool:
+        return self.record.planned is not None and self.record.planned.plan.id == plan_id
+
+    def fresh(self, plan_id: str) -> str:
+        """The text of the last plan, which may be carried out."""
+        planned = self.record.planned
+        if planned is None or planned.plan.id != plan_id:
+            raise Refused('{} is not the last plan'.format(plan_id))
+        if time.time() - planned.time > float(self.mgr.get_module_option('plan_age')):
+            raise Refused('the plan {} is too old: plan again'.format(plan_id))
+        if self.cluster.word() != planned.word:
+            raise Refused('the ranks changed since the plan {}: plan again'.format(plan_id))
+        return planned.plan.text
+
+    def once(self, plan_id: str) -> str:
+        """Moves the directories of the last plan, and sets no pin."""
+        text = read_plan(self.fresh(plan_id))
+        why = why_not(text)
+        if why:
+            raise Refused(why)
+        self.refuse()
+        trial = Trial(self.cluster, self.rest, self.say)
+        return 'once {}: {}'.format(plan_id, trial.run(text.changes, *(float(self.mgr.get_module_option(it)) for it in ('poll', 'wait'))))
 
     def rollback(self) -> str:
         if not self.record.text.begun:

@@ -5,8 +5,12 @@ need, does what they ask, and tells people of it. All that takes time is a job o
 a module wait for each other: so status always answers.
 """
 import errno
+import glob
 import json
+import os
 import queue
+import shutil
+import tempfile
 import threading
 import time
 from typing import Any, Dict, List, NamedTuple, Optional, Tuple
@@ -44,6 +48,8 @@ class Module(MgrModule):
                desc='a round comes at once where the hottest rank is at so many percent of the mean for half a minute, in requests; 0: never'),
         Option('samples', type='uint', default=6, min=1, max=60, runtime=True, desc='samples of the heat for a plan'),
         Option('pause', type='secs', default=3, runtime=True, desc='seconds between two samples'),
+        Option('hours', type='uint', default=24, min=1, max=32, runtime=True,
+               desc='plan for so many hours: now, and the most different of those that are recorded; 1: for now alone'),
         Option('least_gain', type='uint', default=5, max=100, runtime=True,
                desc='propose nothing if the hottest rank gets cooler by fewer percent'),
         Option('least_heat', type='uint', default=0, runtime=True,
@@ -62,6 +68,8 @@ class Module(MgrModule):
         Option('call_limit', type='secs', default=60, min=1, runtime=True, desc='seconds within which a rank has to answer'),
         Option('most_directories', type='uint', default=200000, runtime=True,
                desc='ask no rank for its heat that caches more directories: it answers nobody else for 47 us each'),
+        Option('warn_percent', type='uint', default=0, runtime=True,
+               desc='warn where the hottest rank was so many percent above what a plan could give at three plans in a row; 0: never'),
         Option('metrics_port', type='uint', default=0, max=65535, runtime=True, desc='port of the metrics for Prometheus; 0: none'),
     ]
 
@@ -121,15 +129,15 @@ class Module(MgrModule):
         return 0, telling.show(planned), ''
 
     @command('fs mdbal apply', perm='rw')
-    def apply(self, fs: str, id: str) -> Answer:
-        """Set the pins of the plan with this id, or go on with it where it was stopped"""
+    def apply(self, fs: str, id: str, once: bool = False) -> Answer:
+        """Set the pins of the plan with this id, or go on with it where it was stopped; --once: move its directories without pins"""
         record = self.records.get(fs)
         planned = record.planned if record else None
         if record and not (planned and planned.plan.id == id or record.state.text and id_of(record.state.text) == id):
             return -errno.ENOENT, '', '{} is not the last plan of {}'.format(id, fs)
         if planned and planned.plan.id == id and not planned.plan.is_proposed:
             return -errno.EINVAL, '', '{} changes no pin'.format(id)
-        return self.ask(Job('apply', fs, id))
+        return self.ask(Job('once' if once else 'apply', fs, id))
 
     @command('fs mdbal rollback', perm='rw')
     def rollback(self, fs: str) -> Answer:
@@ -176,6 +184,15 @@ class Module(MgrModule):
         """Waits; whether the manager ends this module."""
         return self.is_ending.wait(seconds)
 
+    def room(self) -> str:
+        """What the names of the folders of this manager's jobs begin with."""
+        return 'mdbal-{}-{}-'.format(self.get('mon_map')['fsid'], self.get_mgr_id())
+
+    def clear(self) -> None:
+        """Removes what jobs left behind whose manager was killed."""
+        for folder in glob.glob(glob.escape(os.path.join(tempfile.gettempdir(), self.room())) + '*'):
+            shutil.rmtree(folder, ignore_errors=True)
+
     def say(self, fs: str, doing: str) -> None:
         self.doing = '{}: {}'.format(fs, doing)
 
@@ -201,6 +218,7 @@ class Module(MgrModule):
 
     def serve(self) -> None:
         self.log.info('mdbal starts')
+        self.clear()
         while not self.is_ending.is_set():
             try:
                 self.meet()
@@ -297,8 +315,8 @@ class Module(MgrModule):
         hands = Hands(client, job.fs, float(self.get_module_option('call_limit')))
         try:
             work = Work(self, record, Cluster(self, job.fs, hands))
-            if job.what == 'apply':
-                return work.apply(job.id)
+            if job.id:
+                return {'apply': work.apply, 'once': work.once}[job.what](job.id)
             return {'plan': work.plan, 'check': work.check, 'rollback': work.rollback, 'round': work.round}[job.what]()
         finally:
             hands.close()
@@ -314,4 +332,4 @@ class Module(MgrModule):
             raise
 
     def tell_health(self) -> None:
-        self.set_health_checks(telling.health(list(self.records.values())))
+        self.set_health_checks(telling.health(list(self.records.values()), int(self.get_module_option('warn_percent'))))

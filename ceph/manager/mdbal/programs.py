@@ -19,6 +19,7 @@ class Plan(NamedTuple):
     is_proposed: bool
     told: Dict[str, Any]   # the JSON of mdbal_ceph
     report: str
+    hour: bytes            # the record of its heat
 
 
 def program(name: str) -> str:
@@ -50,14 +51,16 @@ def paths_of(folder: str, own: str, limit: float) -> List[bytes]:
     return [path[1:].rstrip(b'/') for path in named.split(b'\0') if path]
 
 
-def plan(folder: str, own: str, options: List[str], limit: float) -> Plan:
-    words = [folder, '--own', own] + options
-    pins = os.path.join(folder, 'pins')
-    status, text = run(words + ['--pins', pins, '--json'], limit, (DONE, NOTHING))
+def plan(past: List[str], folder: str, own: str, options: List[str], limit: float) -> Plan:
+    """A plan by the heat of a folder and of earlier hours."""
+    words = past + [folder, '--own', own] + options
+    pins, hour = os.path.join(folder, 'pins'), os.path.join(folder, 'hour')
+    status, text = run(words + ['--pins', pins, '--record', hour, '--json'], limit, (DONE, NOTHING))
     report = run(words, limit, (status,))[1].decode('latin-1')
     with open(pins + '.plan', encoding='ascii') as it:
         plan_text = it.read()
-    return Plan(id_of(plan_text), plan_text, status == DONE, json.loads(text.decode('utf-8')), report)
+    with open(hour, 'rb') as record:
+        return Plan(id_of(plan_text), plan_text, status == DONE, json.loads(text.decode('utf-8')), report, record.read())
 
 
 def check(folder: str, own: str, limit: float) -> Tuple[bool, List[str]]:

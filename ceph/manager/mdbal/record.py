@@ -8,6 +8,9 @@ from .state import State
 from .texts import PlanText, id_of, read_plan
 
 
+UNEVEN_PLANS = 3  # plans in a row that find a file system uneven, for a warning
+
+
 class Planned(NamedTuple):
     """The last plan, which is kept in memory only."""
     plan: Plan
@@ -32,6 +35,7 @@ class Record:
         self.round_time = 0  # when the last one ended
         self.watch = Watch()
         self.stopped = ''    # why pins are set half way, or why rounds do not go on
+        self.above = []      # type: List[float]  # percent by which the hottest rank was above the bound at the last plans
         self.take(state)
 
     def take(self, state: State, is_running: bool = False) -> None:
@@ -44,6 +48,12 @@ class Record:
                 'set' if state.what == 'set' else 'restored', self.how_to_go_on())
         elif state.ended not in ('', 'done'):
             self.stopped = '{}; {}'.format(state.ended, self.how_to_go_on())
+
+    def take_plan(self, planned: Planned) -> None:
+        told = planned.plan.told
+        hottest = max((it['now'] for it in told['ranks']), default=0)
+        above = 100 * (hottest / told['bound'] - 1) if told['bound'] and not told['idle'] else 0.0
+        self.planned, self.above = planned, (self.above + [above])[-UNEVEN_PLANS:]
 
     def how_to_go_on(self) -> str:
         return 'up to {} of {} pins are set: `ceph fs mdbal apply {} {}` goes on, `rollback` restores'.format(

@@ -2,7 +2,7 @@
 import time
 from typing import Any, Dict, List
 
-from .record import Planned, Record
+from .record import UNEVEN_PLANS, Planned, Record
 from .texts import NO_PIN, escaped, id_of, read_plan
 
 MOST_LINES = 10  # of the detail of a health warning
@@ -83,8 +83,8 @@ def show(planned: Planned) -> str:
     return head + '\n'.join(['  pin   was  directory'] + lines if planned.plan.is_proposed else ['no pin changes'])
 
 
-def health(records: List[Record]) -> Dict[str, Any]:
-    """The health checks of all file systems."""
+def health(records: List[Record], most_above: int) -> Dict[str, Any]:
+    """The health checks of all file systems. most_above is the percent above the bound from which on there is a warning; 0: none."""
     found = {}  # type: Dict[str, Any]
 
     def warn(code: str, summary: str, detail: List[str]) -> None:
@@ -98,6 +98,9 @@ def health(records: List[Record]) -> Dict[str, Any]:
          ['file system {}: {}'.format(it.name, line) for it in records for line in it.not_held])
     warn('MDBAL_BALANCER_ON', 'mdbal is on, and so is the balancer of Ceph',
          ['file system {}: turn the balancer of Ceph off'.format(it.name) for it in records if it.state.on and it.is_balancer_on])
+    warn('MDBAL_UNEVEN', 'the hottest rank is far above what a plan could give',
+         ['file system {}: {:.0f} % above the bound at the last {} plans'.format(it.name, min(it.above), UNEVEN_PLANS)
+          for it in records if most_above and len(it.above) == UNEVEN_PLANS and min(it.above) > most_above])
     return found
 
 
