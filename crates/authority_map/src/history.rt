@@ -8,7 +8,7 @@ ghost use Rattle.authority_map.specs.Log.{counter_of};
 
 use crate::operation::MapOperation;
 use logbook::{Gain, Offer, Opening, Plain, Play, Rule, Seen, Start, Word};
-use naming::Naming;
+use proof_names::Naming;
 use std::marker::{Model, PhantomData};
 
 /// The book's rule: its word has the length of its list.

@@ -10,7 +10,7 @@ use crate::publisher::Publisher;
 use crate::table::Table;
 use left_right::ReadHandle;
 use mds_types::{Dir, Rank};
-use naming::Naming;
+use proof_names::Naming;
 use std::marker::Model;
 
 /// A reader, which one thread has at a time. A contract sees the list of operations that its answers hold.

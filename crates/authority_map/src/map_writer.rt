@@ -12,7 +12,7 @@ use crate::table::Table;
 use left_right::{Absorb, WriteHandle};
 use mds_types::limits::DIR_LIMIT;
 use mds_types::{Dir, Rank};
-use naming::Naming;
+use proof_names::Naming;
 use std::alloc::Global;
 use std::sync::Wait;
 

@@ -5,7 +5,7 @@ ghost use Rattle.authority_map.specs.Operations.{Operation, SetTo, Clear, rank_a
 use crate::map_error::MapError;
 use crate::map_reader::Published;
 use mds_types::{Dir, Rank};
-use naming::Naming;
+use proof_names::Naming;
 
 /// Publishes the map of the board that `J` names.
 ///

@@ -8,7 +8,7 @@ use crate::map_error::MapError;
 use crate::operation::{MapOperation, OperationKind};
 use crate::table::Table;
 use left_right::WriteHandle;
-use naming::Naming;
+use proof_names::Naming;
 use std::alloc::Global;
 use std::collections::VecDeque;
 use std::marker::Model;

@@ -11,7 +11,7 @@ use crate::rewriting::write_all;
 use crate::runs::{BLOCK, Runs, indexed_run_of};
 use left_right::Absorb;
 use mds_types::{Dir, Rank};
-use naming::Naming;
+use proof_names::Naming;
 use std::alloc::{AllocError, Global};
 
 #[derive(Drop)]

@@ -10,7 +10,7 @@ use crate::words::print;
 use authority_map::{Found, MapReader, MapWriter, NewMap, Publisher};
 use mds_types::limits::DIR_LIMIT;
 use mds_types::{Dir, Rank};
-use naming::Naming;
+use proof_names::Naming;
 use std::alloc::Global;
 use std::io::{self, Write};
 use std::marker::Brand;

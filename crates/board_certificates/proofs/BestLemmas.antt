@@ -3,12 +3,12 @@ use Rattle.std.proofs.Common.{◌≡◌, Bool, true, false, ℕ, List, [], ◌�
 use Rattle.std.proofs.lemmas.List.Elements.{All-append, All-cons, All-nil}
 use Rattle.std.specs.Option.{option_map}
 use Rattle.board_certificates.specs.Certificates.{PosedData, certified_by, certificates, opened}
-use Rattle.board_state.specs.declared.change.Answer.{Answer}
-use Rattle.board_state.specs.declared.change.Change.{Change}
-use Rattle.board_state.specs.declared.change.Change.TheVariants.{Make, Remove, Mask, Deposit, Tick, Step, Open, Adopt}
-use Rattle.board_state.specs.declared.change.Change.TheVariants as change
-use Rattle.board_state.specs.State.{State, Opened, happens, marked, marked_if, next}
-use Rattle.board_state.specs.Steps.{IsAllowed, IsBestForOpen}
+use Rattle.mds_board.specs.declared.change.Answer.{Answer}
+use Rattle.mds_board.specs.declared.change.Change.{Change}
+use Rattle.mds_board.specs.declared.change.Change.TheVariants.{Make, Remove, Mask, Deposit, Tick, Step, Open, Adopt}
+use Rattle.mds_board.specs.declared.change.Change.TheVariants as change
+use Rattle.mds_board.specs.State.{State, Opened, happens, marked, marked_if, next}
+use Rattle.mds_board.specs.Steps.{IsAllowed, IsBestForOpen}
 use Rattle.mds_board.specs.declared.entry.Entry.{Entry}
 use Rattle.mds_board.specs.History.{IsReplay}
 use Rattle.mds_types.specs.Certificate.{IsBest, IsCertified}

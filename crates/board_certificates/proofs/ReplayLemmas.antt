@@ -14,13 +14,13 @@ use Rattle.board_certificates.specs.Certificates.{PosedData, opened, row_name, r
 use Rattle.board_certificates.specs.Posed.{IsSized}
 use Rattle.board_certificates.specs.Replayed.{IsReplayed, made_names}
 use Rattle.board_certificates.specs.declared.replay.Replay.{Replay}
-use Rattle.board_problem.specs.ProblemRows.{row_of}
-use Rattle.board_state.specs.declared.board_error.BoardError.{BoardError}
-use Rattle.board_state.specs.declared.change.Answer.{Answer}
-use Rattle.board_state.specs.declared.change.Change.{Change}
-use Rattle.board_state.specs.declared.change.Change.TheVariants.{Make, Remove, Mask, Deposit, Tick, Step, Open, Adopt}
-use Rattle.board_state.specs.declared.change.Change.TheVariants as change
-use Rattle.board_state.specs.State.{State, authorities, dirs_of, happens, next, of_pin, of_tree, or_cause, refusal, start}
+use Rattle.tree_parts.specs.ProblemRows.{row_of}
+use Rattle.mds_board.specs.declared.board_error.BoardError.{BoardError}
+use Rattle.mds_board.specs.declared.change.Answer.{Answer}
+use Rattle.mds_board.specs.declared.change.Change.{Change}
+use Rattle.mds_board.specs.declared.change.Change.TheVariants.{Make, Remove, Mask, Deposit, Tick, Step, Open, Adopt}
+use Rattle.mds_board.specs.declared.change.Change.TheVariants as change
+use Rattle.mds_board.specs.State.{State, authorities, dirs_of, happens, next, of_pin, of_tree, or_cause, refusal, start}
 use Rattle.dir_pins.specs.declared.pin_error.PinError.{PinError}
 use Rattle.dir_pins.specs.declared.pin_error.PinError.TheVariants.{NoDir, NoRank}
 use Rattle.dir_pins.specs.Pins.{PinTable, below, is_pin, is_unpinned, nearest_pin, no_pins, pin_refusal, pin_value, unpinned, with_pin}

@@ -12,10 +12,10 @@ use Rattle.board_certificates.specs.Posed.{IsSized, posed_of}
 use Rattle.board_certificates.specs.Replayed.{IsReplayed}
 use Rattle.board_certificates.specs.declared.replay.Replay.{Replay}
 use Rattle.board_certificates.proofs.ReplayLemmas.{sized}
-use Rattle.board_state.specs.State.{State, next, refusal}
+use Rattle.mds_board.specs.State.{State, next, refusal}
 use Rattle.mds_board.specs.History.{IsReplay}
-use Rattle.board_state.specs.declared.change.Change.{Change}
-use Rattle.board_state.specs.declared.change.Change.TheVariants.{Adopt}
+use Rattle.mds_board.specs.declared.change.Change.{Change}
+use Rattle.mds_board.specs.declared.change.Change.TheVariants.{Adopt}
 use Rattle.mds_board.specs.declared.entry.Entry.{Entry}
 use Rattle.mds_types.specs.Plan.{PlanData}
 use Rattle.plan_text.specs.Text.{text, texts}

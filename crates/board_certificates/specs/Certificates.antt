@@ -1,11 +1,11 @@
 -- The certificates of the plans that a history adopts.
 use Rattle.std.specs.Prelude.{ℕ, List, [], ◌∷◌, ◌++◌, codes, map, Option, Some, None}
 use Prim.Native.Nat.{zero, suc}
-use Rattle.board_state.specs.declared.change.Answer.{Answer}
-use Rattle.board_state.specs.declared.change.Answer.TheVariants.{Problem}
-use Rattle.board_state.specs.declared.change.Change.{Change}
-use Rattle.board_state.specs.declared.change.Change.TheVariants.{Adopt}
-use Rattle.board_state.specs.State.{State, dirs_of, next, start}
+use Rattle.mds_board.specs.declared.change.Answer.{Answer}
+use Rattle.mds_board.specs.declared.change.Answer.TheVariants.{Problem}
+use Rattle.mds_board.specs.declared.change.Change.{Change}
+use Rattle.mds_board.specs.declared.change.Change.TheVariants.{Adopt}
+use Rattle.mds_board.specs.State.{State, dirs_of, next, start}
 use Rattle.dirtree.specs.Tree.{Entry, name_of}
 use Rattle.mds_board.specs.declared.entry.Entry as history
 use Rattle.mds_board.specs.History.{World}

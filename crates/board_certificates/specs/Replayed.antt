@@ -2,8 +2,8 @@
 use Rattle.std.specs.Prelude.{◌≡◌, ◌<◌, ◌≤◌, ℕ, true, List, [], length, map, slice_index_or, None}
 use Rattle.board_certificates.specs.Certificates.{row_name}
 use Rattle.board_certificates.specs.declared.replay.Replay.{Replay}
-use Rattle.board_state.specs.declared.change.Change.{Change}
-use Rattle.board_state.specs.State.{State, refusal}
+use Rattle.mds_board.specs.declared.change.Change.{Change}
+use Rattle.mds_board.specs.State.{State, refusal}
 use Rattle.dirtree.specs.Tree.{is_there}
 
 -- the names that directories were made with, by their numbers, and the slash of the root

@@ -4,12 +4,11 @@ ghost use Rattle.std.specs.Prelude.{◌≡◌, IfOk, None, OnOk};
 ghost use Rattle.board_certificates.specs.Certificates.{opened};
 ghost use Rattle.board_certificates.specs.Posed.{posed_of};
 ghost use Rattle.board_certificates.specs.Replayed.{IsNext, IsReplayed};
-ghost use Rattle.board_state.specs.State.{State, next, refusal};
+ghost use Rattle.mds_board.specs.State.{State, next, refusal};
 ghost use Rattle.mds_board.specs.Stored.{shown_entry};
 
 use crate::replay::Replay;
-use board_state::Answer;
-use mds_board::Shown;
+use mds_board::{Answer, Shown};
 use mds_types::Problem;
 use plan_text::RowNames;
 use std::alloc::{AllocError, Global};

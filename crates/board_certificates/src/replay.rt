@@ -2,14 +2,14 @@
 ghost use Rattle.std.specs.Prelude.{◌≡◌, ◌≤◌, ◌++◌, ◌∷◌, [], IfOk, None, OnOk, length, true};
 ghost use Rattle.board_certificates.specs.Certificates.{row_name, row_names};
 ghost use Rattle.board_certificates.specs.Replayed.{IsNext, IsReplayed, made_names};
-ghost use Rattle.board_state.specs.State.{State, next, refusal, start};
+ghost use Rattle.mds_board.specs.State.{State, next, refusal, start};
 ghost use Rattle.dir_pins.specs.Pins.{pin_refusal, with_pin};
 ghost use Rattle.plan_text.specs.RowNames.{IsRowName};
 ghost use Rattle.dirtree.specs.Tree.{is_there, remove_refusal, with_child, without};
 
-use board_state::Change;
 use dir_pins::Pins;
 use dirtree::Tree;
+use mds_board::Change;
 use mds_types::Dir;
 use plan_text::RowNames;
 use std::alloc::{AllocError, Global};

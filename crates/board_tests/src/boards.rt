@@ -3,7 +3,6 @@
 use crate::heats::{add, heat_of};
 use crate::same::{Sure, same, same_in};
 use arrayvec::ArrayVec;
-use board_problem::{Opened, PlanPart, open, parts};
 use dir_pins::Pins;
 use dirtree::Tree;
 use exhaustive::Random;
@@ -11,6 +10,8 @@ use heat_decay::Heat;
 use mds_types::{CutProof, Dir, DualProof, Plan, ProblemRow, Rank, RankSet};
 use std::alloc::{AllocError, Global};
 use std::process::Abort;
+use tree_parts::plan_parts::parts;
+use tree_parts::{Opened, PlanPart, open};
 
 /// How many directories a board has room for.
 const ROOM: u32 = 24;

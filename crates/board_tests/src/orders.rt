@@ -4,9 +4,9 @@ use crate::same::{Sure, same_in};
 use dirtree::Tree;
 use exhaustive::Random;
 use mds_types::{Dir, Dirs, Order, Rank};
-use move_orders::orders;
 use std::alloc::{AllocError, Global};
 use std::process::Abort;
+use tree_parts::orders;
 
 /// Directories of a tree.
 const DIRS: usize = 16;

@@ -4,7 +4,7 @@ ghost use Rattle.std.specs.Prelude.{◌≡◌};
 use crate::same::{Sure, same};
 use heat_ledger::{Book, NewBook, Share};
 use mds_types::{Dir, Kind};
-use naming::Naming;
+use proof_names::Naming;
 use std::alloc::AllocError;
 use std::marker::Brand;
 use std::process::Abort;

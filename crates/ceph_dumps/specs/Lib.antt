@@ -4,9 +4,11 @@ pub mod Complete
 pub mod HourRecord
 pub mod Inode
 pub mod Inodes
+pub mod KeyPath
 pub mod Listing
 pub mod OneForOne
 pub mod OwnList
 pub mod PathList
 pub mod Paths
 pub mod Told
+pub mod WideBytes

@@ -1,12 +1,12 @@
 //! Reads a dump by the type that it has.
 ghost use Rattle.std.specs.Prelude.{IfErr, IfOk};
 ghost use Rattle.ceph_dumps.specs.Told.{IsToldOf};
-ghost use Rattle.json_text.specs.WideBytes.{wide};
+ghost use Rattle.ceph_dumps.specs.WideBytes.{wide};
 
 use crate::dump_error::DumpError;
+use crate::key_path::{column_of, key_path, line_begin};
 use crate::members::Whole;
-use json_text::key_path::{column_of, key_path, line_begin};
-use json_text::{widened, write_over_bare_words};
+use crate::{widened, write_over_bare_words};
 use serde::DeserializeOwned;
 use std::alloc::{AllocError, Global};
 

@@ -2,6 +2,7 @@
 #![tactic(auto)]
 
 pub mod balancer;
+pub mod bare_words;
 pub mod cluster;
 pub mod dump_error;
 pub mod file_system;
@@ -9,6 +10,7 @@ pub mod hour_record;
 pub mod inode;
 pub mod inodes;
 mod json;
+pub mod key_path;
 pub mod laws;
 pub mod listing;
 pub mod loads;
@@ -18,8 +20,10 @@ pub mod path_list;
 pub mod paths;
 pub mod rank_sets;
 pub mod subtrees;
+pub mod wide_bytes;
 
 pub use balancer::read_balancer;
+pub use bare_words::write_over_bare_words;
 pub use cluster::{FileSystemRanks, read_cluster};
 pub use dump_error::DumpError;
 pub use file_system::{FileSystem, is_word_byte, read_complete};
@@ -33,3 +37,4 @@ pub use path_list::read_path_list;
 pub use paths::is_clean_path;
 pub use rank_sets::common_ranks;
 pub use subtrees::{SubtreeRoot, read_subtrees};
+pub use wide_bytes::{narrowed, widened};

@@ -6,8 +6,8 @@ ghost use Rattle.ceph_dumps.specs.Paths.{is_clean_path};
 use crate::dump_error::DumpError;
 use crate::json::read_json;
 use crate::members::{Members, NESTED, Objects, TEXT, TRUTH, WHOLE, fill, present, read_object};
+use crate::narrowed;
 use crate::paths::is_clean_path;
-use json_text::narrowed;
 use serde::{DeserializeOwned, Deserializer, Format, Name};
 use std::alloc::Global;
 

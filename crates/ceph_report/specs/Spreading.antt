@@ -3,7 +3,7 @@ use Rattle.std.specs.Prelude.{◌==◌, ◌*◌, ◌/◌, ◌%◌, ◌++◌, ℕ
 use Rattle.std.specs.Prelude.{nat_le, if◌then◌else◌}
 use Rattle.std.specs.Borrow.{Bor}
 use Rattle.mds_types.specs.RankSet.{rank_count}
-use Rattle.ceph_distributed.specs.declared.spread.Advice.{Advice}
+use Rattle.ceph_pins.specs.declared.spread.Advice.{Advice}
 use Rattle.ceph_snapshot.specs.Holding.{most_heat}
 use Rattle.ceph_snapshot.specs.Shown.{shown_path}
 use Rattle.ceph_report.specs.Text.{field, path_value}

@@ -9,7 +9,7 @@ use crate::hours::PlannedHour;
 use crate::moves::{Move, Sums};
 use crate::roots::Roots;
 use crate::staying::Stay;
-use ceph_distributed::Advice;
+use ceph_pins::Advice;
 use ceph_plan::{PinRow, Planned};
 use ceph_snapshot::{Directory, Held};
 use mds_types::limits::RANK_LIMIT;

@@ -6,7 +6,7 @@ ghost use Rattle.ceph_report.specs.Spreading.{planned_share, spread_share, sprea
 
 use crate::facts::{Facts, hottest};
 use crate::text::{push_number, push_path, push_path_value, push_text};
-use ceph_distributed::Advice;
+use ceph_pins::Advice;
 use std::alloc::AllocError;
 
 /// How many times a fair share of all this heat for each of these ranks a heat is, in hundredths; 0 of no heat.

@@ -1,7 +1,7 @@
 //! Where Ceph's policy of distributed pins puts what is below a directory, and the directory where it helps most.
 
 use crate::same::{Sure, same, same_in};
-use ceph_distributed::{Advice, advised, rank_of_child};
+use ceph_pins::{Advice, advised, rank_of_child};
 use ceph_snapshot::Directory;
 use mds_types::Rank;
 use std::alloc::Global;

@@ -11,13 +11,13 @@ use Rattle.mds_board.specs.History.{World}
 use Rattle.export_rounds.specs.declared.standing.Standing.{Standing}
 use Rattle.export_rounds.specs.declared.standing.Standing.TheVariants.{Waiting, Started, Refused}
 use Rattle.export_rounds.specs.Asked.{AreAsked, IsAsked}
-use Rattle.board_state.specs.declared.board_error.BoardError.{BoardError}
-use Rattle.board_state.specs.declared.change.Change.{Change}
+use Rattle.mds_board.specs.declared.board_error.BoardError.{BoardError}
+use Rattle.mds_board.specs.declared.change.Change.{Change}
 use Rattle.export_rounds.specs.Further.{IsFurther}
 use Rattle.export_rounds.specs.Moments.{IsMet, IsSince}
 use Rattle.export_protocol.specs.declared.event.Event.TheVariants.{Start}
-use Rattle.board_state.specs.declared.change.Change.TheVariants.{Step}
-use Rattle.board_state.specs.Steps.{IsDue}
+use Rattle.mds_board.specs.declared.change.Change.TheVariants.{Step}
+use Rattle.mds_board.specs.Steps.{IsDue}
 use Rattle.export_rounds.specs.Outcomes.{IsRefused, IsStarted}
 use Rattle.export_rounds.specs.Pairs.{AreEach}
 use Rattle.export_rounds.proofs.Ordering.{get_first, get_last, no_fewer, orders_stay}

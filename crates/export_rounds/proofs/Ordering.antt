@@ -9,14 +9,14 @@ use Rattle.export_protocol.specs.declared.event.Event.TheVariants.{Made, Gone, B
 use Rattle.export_protocol.specs.Step as machine
 use Rattle.export_protocol.proofs.Frame.{delivered_frame}
 use Rattle.mds_types.specs.declared.order.Order.{Order}
-use Rattle.board_state.specs.declared.change.Change.{Change}
-use Rattle.board_state.specs.declared.change.Change.TheVariants.{Make, Remove, Mask, Deposit, Tick, Step, Open, Adopt}
-use Rattle.board_state.specs.declared.change.Change.TheVariants as change
-use Rattle.board_state.specs.declared.change.Answer.TheVariants as answer
-use Rattle.board_state.specs.State.{State, after_event, happens, next}
-use Rattle.board_state.specs.declared.board_error.BoardError.{BoardError}
-use Rattle.board_state.specs.Steps.{is_inner, spelled}
-use Rattle.board_state.proofs.Mapping.{after_step}
+use Rattle.mds_board.specs.declared.change.Change.{Change}
+use Rattle.mds_board.specs.declared.change.Change.TheVariants.{Make, Remove, Mask, Deposit, Tick, Step, Open, Adopt}
+use Rattle.mds_board.specs.declared.change.Change.TheVariants as change
+use Rattle.mds_board.specs.declared.change.Answer.TheVariants as answer
+use Rattle.mds_board.specs.State.{State, after_event, happens, next}
+use Rattle.mds_board.specs.declared.board_error.BoardError.{BoardError}
+use Rattle.mds_board.specs.Steps.{is_inner, spelled}
+use Rattle.mds_board.proofs.Mapping.{after_step}
 use Rattle.mds_board.specs.declared.entry.Entry.{Entry}
 use Rattle.mds_board.specs.History.{World, IsAnswer, IsReplay, recorded}
 use Rattle.export_rounds.specs.Further.{IsFurther, IsInner}

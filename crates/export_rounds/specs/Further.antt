@@ -1,10 +1,10 @@
 -- How a board goes on only by exports.
 use Rattle.std.specs.Prelude.{◌≡◌, ◌⊎◌, true, List, ◌++◌, All}
 use Rattle.authority_map.specs.Operations.{Operation}
-use Rattle.board_state.specs.declared.change.Change.{Change}
-use Rattle.board_state.specs.declared.change.Change.TheVariants.{Step}
-use Rattle.board_state.specs.State.{State}
-use Rattle.board_state.specs.Steps.{is_inner}
+use Rattle.mds_board.specs.declared.change.Change.{Change}
+use Rattle.mds_board.specs.declared.change.Change.TheVariants.{Step}
+use Rattle.mds_board.specs.State.{State}
+use Rattle.mds_board.specs.Steps.{is_inner}
 use Rattle.mds_board.specs.declared.entry.Entry.{Entry}
 use Rattle.mds_board.specs.History.{World, IsReplay, after}
 

@@ -1,9 +1,9 @@
 -- The boards on the way of a phase.
 use Rattle.std.specs.Prelude.{◌≡◌, ◌≤◌, List, ◌++◌, length}
 use mathlib.Core.List.{IsPrefix}
-use Rattle.board_state.specs.declared.board_error.BoardError.{BoardError}
-use Rattle.board_state.specs.declared.change.Change.{Change}
-use Rattle.board_state.specs.Steps.{IsDue}
+use Rattle.mds_board.specs.declared.board_error.BoardError.{BoardError}
+use Rattle.mds_board.specs.declared.change.Change.{Change}
+use Rattle.mds_board.specs.Steps.{IsDue}
 use Rattle.mds_board.specs.declared.entry.Entry.{Entry}
 use Rattle.mds_board.specs.History.{World, IsReplay}
 

@@ -7,8 +7,8 @@ use Rattle.export_protocol.specs.declared.exporter.ExporterState.TheVariants.{Ab
 use Rattle.export_protocol.specs.declared.importer.ImporterState.{ImporterState}
 use Rattle.export_protocol.specs.declared.importer.ImporterState.TheVariants.{Imported}
 use Rattle.mds_types.specs.declared.order.Order.{Order}
-use Rattle.board_state.specs.declared.board_error.BoardError.{BoardError}
-use Rattle.board_state.specs.declared.change.Change.TheVariants.{Step}
+use Rattle.mds_board.specs.declared.board_error.BoardError.{BoardError}
+use Rattle.mds_board.specs.declared.change.Change.TheVariants.{Step}
 use Rattle.mds_board.specs.History.{World}
 use Rattle.export_rounds.specs.declared.outcome.Outcome.{Outcome}
 use Rattle.export_rounds.specs.declared.outcome.Outcome.TheVariants.{Done, NoThread, Open, Refused}

@@ -1,6 +1,6 @@
 //! What became of an order.
 
-use board_state::BoardError;
+use mds_board::BoardError;
 
 /// What became of an order in a phase. Exports go by their numbers.
 #[derive(Clone, Copy, Debug, PartialEq, Eq)]

@@ -1,7 +1,7 @@
 //! What the threads of a phase do to the exports of the board that they share.
 ghost use Rattle.std.specs.Prelude.{◌≡◌, ◌≤◌, ℕ, IfSome, true};
-ghost use Rattle.board_state.specs.declared.change.Change.TheVariants as Change;
-ghost use Rattle.board_state.specs.Steps.{is_inner};
+ghost use Rattle.mds_board.specs.declared.change.Change.TheVariants as Change;
+ghost use Rattle.mds_board.specs.Steps.{is_inner};
 ghost use Rattle.export_rounds.specs.Adding.{IsOfPhase};
 ghost use Rattle.export_rounds.specs.Asked.{is_later};
 

@@ -1,6 +1,6 @@
 //! The state of an order.
 
-use board_state::BoardError;
+use mds_board::BoardError;
 use mds_types::Order;
 
 /// The state of an order in a phase.

@@ -10,10 +10,9 @@ ghost use Rattle.export_rounds.specs.Moments.{IsSince};
 use crate::standing::Standing;
 use crate::stepping::start;
 use authority_map::Publisher;
-use board_state::BoardError;
-use mds_board::Board;
+use mds_board::{Board, BoardError};
 use mds_types::Order;
-use naming::Naming;
+use proof_names::Naming;
 use std::alloc::{AllocError, Global};
 use std::mem::replace;
 

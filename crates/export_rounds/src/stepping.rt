@@ -1,16 +1,15 @@
 //! Single steps on a board.
 ghost use Rattle.std.specs.Prelude.{◌≡◌, ◌++◌, ◌∷◌, [], ℕ, length, IfOk, IfErr, OnErr};
-ghost use Rattle.board_state.specs.declared.change.Change.TheVariants.{Step};
-ghost use Rattle.board_state.specs.Steps.{IsDue};
+ghost use Rattle.mds_board.specs.declared.change.Change.TheVariants.{Step};
+ghost use Rattle.mds_board.specs.Steps.{IsDue};
 ghost use Rattle.export_rounds.specs.Adding.{GoesOnBy};
 ghost use Rattle.export_rounds.specs.Further.{IsFurther};
 
 use authority_map::Publisher;
-use board_state::BoardError;
 use export_protocol::{Event, Reply};
-use mds_board::Board;
+use mds_board::{Board, BoardError};
 use mds_types::Order;
-use naming::Naming;
+use proof_names::Naming;
 use std::alloc::Global;
 
 /// Starts an export, and returns its number.

@@ -10,7 +10,7 @@ use export_protocol::Event;
 use export_rounds::starting::settle_at;
 use export_rounds::{ExportSide, Standing};
 use mds_board::Board;
-use naming::Naming;
+use proof_names::Naming;
 use std::alloc::Global;
 use std::marker::{Brand, Model, PhantomData};
 

@@ -18,7 +18,7 @@ use export_rounds::starting::waiting;
 use export_rounds::{Desk, ExportSide, Gate, Outcome, Standing, Unsettled};
 use mds_board::Board;
 use mds_types::Order;
-use naming::Naming;
+use proof_names::Naming;
 use std::alloc::{AllocError, Global};
 use std::marker::{Brand, Send, Sync};
 use std::sync::{Mutex, Wait};

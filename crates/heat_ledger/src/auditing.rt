@@ -8,7 +8,7 @@ ghost use Rattle.heat_ledger.specs.Gathering.{IsAudited};
 use crate::counts::Counts;
 use crate::share::Share;
 use crate::tally::{SharedTable, Token, grant, learn, take_back};
-use naming::Naming;
+use proof_names::Naming;
 use std::marker::Brand;
 
 // Gives a share of these counts its token again.

@@ -11,7 +11,7 @@ use crate::share::Share;
 use crate::tally::{Token, TokenTable, grant, issue, learn, reissue};
 use mds_types::limits::DIR_LIMIT;
 use mds_types::{Dir, Kind};
-use naming::Naming;
+use proof_names::Naming;
 use std::alloc::{AllocFailed, Global};
 use std::marker::{Brand, Model, PhantomData};
 use std::sync::Arc;

@@ -6,7 +6,7 @@ ghost use Rattle.heat_ledger.specs.Gathering.{IsGathered};
 
 use crate::share::Share;
 use crate::tally::{SharedTable, Token, issue, learn, merge, take_back};
-use naming::Naming;
+use proof_names::Naming;
 use std::marker::Brand;
 use std::mem;
 

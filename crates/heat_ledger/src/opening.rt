@@ -7,7 +7,7 @@ ghost use Rattle.heat_ledger.specs.Opening.{IsUnopened, fresh_share};
 use crate::counts::Counts;
 use crate::share::Share;
 use crate::tally::{Token, TokenTable, grant};
-use naming::Naming;
+use proof_names::Naming;
 use std::alloc::{AllocError, Global};
 use std::marker::{Brand, PhantomData};
 use std::sync::Arc;

@@ -5,7 +5,7 @@ use crate::dir_hits::{DirHits, entry_of};
 use crate::hit_error::HitError;
 use crate::tally::{Token, TokenTable, learn, merge};
 use mds_types::{Dir, Kind};
-use naming::Naming;
+use proof_names::Naming;
 use std::alloc::{AllocError, Global};
 use std::marker::{Model, PhantomData};
 use std::sync::Arc;

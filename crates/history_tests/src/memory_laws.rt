@@ -6,7 +6,7 @@
 //! Of a board's changes `mds_board::laws::refused_once` says so, but for the share of a deposit.
 ghost use Rattle.std.specs.Prelude.{◌≡◌, ◌+◌, ◌≤◌, ◌++◌, [], Some, None, Err, IfErr, IfOk, IsOkUnless, OnErr, OnOk};
 ghost use Rattle.std.specs.Prelude.{length, replicate, true};
-ghost use Rattle.board_state.specs.Steps.{spelled};
+ghost use Rattle.mds_board.specs.Steps.{spelled};
 ghost use Rattle.dirtree.specs.Tree.{make_refusal, with_child};
 ghost use Rattle.export_machine.specs.Kept.{is_ready};
 ghost use Rattle.export_machine.specs.Room.{IsRefusal, KeepsRoom};
@@ -16,15 +16,14 @@ ghost use Rattle.heat_ledger.specs.Rows.{counted_rows};
 ghost use Rattle.mds_board.specs.History.{IsAnswer as IsBoardAnswer};
 
 use authority_map::{MapError, Publisher};
-use board_state::{Answer, BoardError, Change};
 use dirtree::{Tree, TreeError};
 use export_machine::Cluster;
 use export_protocol::{Event, Reply, StepError};
 use heat_ledger::{Book, NewBook, Share};
-use mds_board::Board;
+use mds_board::{Answer, Board, BoardError, Change};
 use mds_types::Dir;
 use mds_types::limits::DIR_LIMIT;
-use naming::Naming;
+use proof_names::Naming;
 use std::alloc::{AllocError, AllocFailed, Global};
 
 /// Makes a directory, as `Tree::make`.

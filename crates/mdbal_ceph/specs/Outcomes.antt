@@ -5,8 +5,8 @@ use Rattle.std.specs.Global.{Global}
 use Rattle.mds_types.specs.declared.limits.TheConstants.{DIR_LIMIT}
 use Rattle.mds_types.specs.declared.problem.ProblemRow.{ProblemRow}
 use Rattle.mds_types.specs.Sums.{sum_below}
-use Rattle.ceph_distributed.specs.declared.spread.Advice.{Advice}
-use Rattle.ceph_distributed.specs.Spreads.{IsAdvised}
+use Rattle.ceph_pins.specs.declared.spread.Advice.{Advice}
+use Rattle.ceph_pins.specs.Spreads.{IsAdvised}
 use Rattle.ceph_snapshot.specs.declared.directory.Directory.{Directory}
 use Rattle.ceph_snapshot.specs.declared.held.Held.{Held}
 use Rattle.ceph_folding.specs.Folding.{AreHoursFolded, AreUnitsLeft, IsFolded}

@@ -16,13 +16,13 @@ use Rattle.export_protocol.specs.declared.step_error.StepError.{StepError}
 use Rattle.export_protocol.specs.declared.step_error.StepError.TheVariants.{HistoryFull, TreeFull}
 use Rattle.export_protocol.proofs.Entries.{is_recorded}
 use Rattle.export_protocol.proofs.Reached.{reached_step, started}
-use Rattle.board_state.specs.declared.change.Change.{Change}
-use Rattle.board_state.specs.declared.change.Change.TheVariants.{Make, Remove, Mask, Deposit, Tick, Step, Open, Adopt}
-use Rattle.board_state.specs.declared.change.Change.TheVariants as change
-use Rattle.board_state.specs.State.{State, start, refusal, happens, next, after_event, begun_with}
-use Rattle.board_state.proofs.Accepted.{may_make, may_remove, may_step}
-use Rattle.board_state.proofs.Fitting.{near}
-use Rattle.board_state.proofs.Mapping.{begins_there, limit_stays, parents_follow, stepped}
+use Rattle.mds_board.specs.declared.change.Change.{Change}
+use Rattle.mds_board.specs.declared.change.Change.TheVariants.{Make, Remove, Mask, Deposit, Tick, Step, Open, Adopt}
+use Rattle.mds_board.specs.declared.change.Change.TheVariants as change
+use Rattle.mds_board.specs.State.{State, start, refusal, happens, next, after_event, begun_with}
+use Rattle.mds_board.proofs.Accepted.{may_make, may_remove, may_step}
+use Rattle.mds_board.proofs.Fitting.{near}
+use Rattle.mds_board.proofs.Mapping.{begins_there, limit_stays, parents_follow, stepped}
 use Rattle.mds_board.specs.declared.entry.Entry.{Entry}
 use Rattle.mds_board.specs.History.{IsReplay}
 use Rattle.mds_board.specs.Promises.{begins, begin_count}

@@ -5,12 +5,12 @@ use Rattle.std.specs.Option.{option_and_then, option_map}
 use Rattle.std.specs.Prelude.{MatchOption, slice_get}
 use Rattle.mds_types.specs.declared.plan.Plan.{Plan}
 use Rattle.mds_types.specs.Certificate.{IsBest}
-use Rattle.board_state.specs.declared.change.Answer.{Answer}
-use Rattle.board_state.specs.declared.change.Change.{Change}
-use Rattle.board_state.specs.declared.change.Change.TheVariants.{Make, Remove, Mask, Deposit, Tick, Step, Open, Adopt}
-use Rattle.board_state.specs.declared.change.Change.TheVariants as change
-use Rattle.board_state.specs.State.{State, Opened, Force, start, enforced, happens, next}
-use Rattle.board_state.specs.Steps.{Present, IsAllowed, IsBestForOpen}
+use Rattle.mds_board.specs.declared.change.Answer.{Answer}
+use Rattle.mds_board.specs.declared.change.Change.{Change}
+use Rattle.mds_board.specs.declared.change.Change.TheVariants.{Make, Remove, Mask, Deposit, Tick, Step, Open, Adopt}
+use Rattle.mds_board.specs.declared.change.Change.TheVariants as change
+use Rattle.mds_board.specs.State.{State, Opened, Force, start, enforced, happens, next}
+use Rattle.mds_board.specs.Steps.{Present, IsAllowed, IsBestForOpen}
 use Rattle.mds_board.specs.declared.entry.Entry.{Entry}
 use Rattle.mds_board.specs.History.{World, IsReplay, IsHistory, world_of}
 use Rattle.mds_board.specs.InForce.{IsBestInForce, adopted, adopted_at, plan_in_force, plan_of}

@@ -8,20 +8,20 @@ use Rattle.mds_types.specs.Certificate.{IsBest, IsCertified}
 use Rattle.mds_types.specs.RankSet.{rank_count}
 use Rattle.dirtree.specs.Tree.{Entry as DirEntry, IsTree, is_there, parent_of, root}
 use Rattle.dirtree.proofs.TreeFacts.{made_tree, removed_tree}
-use Rattle.board_problem.proofs.DirDivisions.{no_cooler}
+use Rattle.tree_parts.proofs.DirDivisions.{no_cooler}
 use Rattle.export_protocol.specs.Cluster.{World as Cluster}
 use Rattle.export_protocol.specs.declared.event.Event.{Event}
 use Rattle.export_protocol.specs.declared.event.Event.TheVariants.{Made, Gone}
 use Rattle.export_protocol.specs.Entries.{logs_export}
 use Rattle.export_protocol.specs.Step as machine
-use Rattle.board_state.specs.declared.change.Answer.{Answer}
-use Rattle.board_state.specs.declared.change.Answer.TheVariants as answer
-use Rattle.board_state.specs.declared.change.Change.{Change}
-use Rattle.board_state.specs.declared.change.Change.TheVariants.{Make, Remove, Mask, Deposit, Tick, Step, Open, Adopt}
-use Rattle.board_state.specs.declared.change.Change.TheVariants as change
-use Rattle.board_state.specs.State.{State, Opened, start, refusal, happens, next, first_of, marked, marked_if, problem_of, after_event, usable, authorities, adopt_cause, unless_changed}
-use Rattle.board_state.specs.Steps.{IsBestForOpen}
-use Rattle.board_state.proofs.Accepted.{may_make, may_remove, may_step, no_cause}
+use Rattle.mds_board.specs.declared.change.Answer.{Answer}
+use Rattle.mds_board.specs.declared.change.Answer.TheVariants as answer
+use Rattle.mds_board.specs.declared.change.Change.{Change}
+use Rattle.mds_board.specs.declared.change.Change.TheVariants.{Make, Remove, Mask, Deposit, Tick, Step, Open, Adopt}
+use Rattle.mds_board.specs.declared.change.Change.TheVariants as change
+use Rattle.mds_board.specs.State.{State, Opened, start, refusal, happens, next, first_of, marked, marked_if, problem_of, after_event, usable, authorities, adopt_cause, unless_changed}
+use Rattle.mds_board.specs.Steps.{IsBestForOpen}
+use Rattle.mds_board.proofs.Accepted.{may_make, may_remove, may_step, no_cause}
 use Rattle.mds_board.specs.declared.entry.Entry.{Entry}
 use Rattle.mds_board.specs.History.{IsReplay, after}
 use Rattle.mds_board.specs.Promises.{AdoptsBest, OpensDirectories, leaves_problem, cluster_event, cluster_events}

@@ -1,7 +1,11 @@
+pub mod Accepted
 pub mod Begun
+pub mod Fitting
 pub mod Forced
 pub mod Headline
 pub mod Listing
+pub mod Mapping
+pub mod Planned
 pub mod Refusing
 pub mod Replays
 pub mod Stored

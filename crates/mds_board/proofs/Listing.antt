@@ -1,7 +1,7 @@
 -- Lists of commands and of events, one more at a time.
 use Rattle.std.proofs.Common.{◌≡◌, List, [], ◌∷◌, ◌++◌, Result, refl, sym, ap, ◌∙◌, append_assoc, append-nil, subst}
-use Rattle.board_state.specs.declared.board_error.BoardError.{BoardError}
-use Rattle.board_state.specs.declared.change.Answer.{Answer}
+use Rattle.mds_board.specs.declared.board_error.BoardError.{BoardError}
+use Rattle.mds_board.specs.declared.change.Answer.{Answer}
 use Rattle.export_protocol.specs.declared.event.Event.{Event}
 use Rattle.mds_board.specs.Commands.{AreCarriedOut, IsCarriedOut}
 use Rattle.mds_board.specs.declared.command.BoardCommand.{BoardCommand}

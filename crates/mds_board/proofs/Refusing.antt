@@ -1,13 +1,13 @@
 -- A change that was refused for memory loses nothing.
 use Rattle.std.proofs.Common.{◌≡◌, ◌∙◌, Option, Some, None, Result, Ok, Err, sym, subst, inl, inr}
 use Rattle.mds_types.specs.declared.plan.Plan.{Plan}
-use Rattle.board_state.specs.declared.board_error.BoardError.{BoardError}
-use Rattle.board_state.specs.declared.board_error.BoardError.TheVariants.{Memory}
-use Rattle.board_state.specs.declared.change.Answer.{Answer}
-use Rattle.board_state.specs.declared.change.Change.{Change}
-use Rattle.board_state.specs.declared.change.Change.TheVariants as change
-use Rattle.board_state.specs.State.{State, Opened, refusal}
-use Rattle.board_state.specs.Steps.{IsAllowed, IsBelied, IsBestForOpen, IsDue, IsNotCertified}
+use Rattle.mds_board.specs.declared.board_error.BoardError.{BoardError}
+use Rattle.mds_board.specs.declared.board_error.BoardError.TheVariants.{Memory}
+use Rattle.mds_board.specs.declared.change.Answer.{Answer}
+use Rattle.mds_board.specs.declared.change.Change.{Change}
+use Rattle.mds_board.specs.declared.change.Change.TheVariants as change
+use Rattle.mds_board.specs.State.{State, Opened, refusal}
+use Rattle.mds_board.specs.Steps.{IsAllowed, IsBelied, IsBestForOpen, IsDue, IsNotCertified}
 use Rattle.mds_board.specs.History.{World, IsAnswer}
 
 pub again : (old between new : World) (c : Change) (answer : Result Answer BoardError) → IsAnswer old c (Err Memory) between → IsAnswer between c answer new → IsAnswer old c answer new

@@ -7,14 +7,14 @@ use Rattle.mds_types.specs.Certificate.{IsBest, IsCertified}
 use Rattle.export_protocol.specs.declared.event.Event.TheVariants.{End}
 use Rattle.export_protocol.specs.declared.event.Reply.TheVariants.{Changed}
 use Rattle.export_protocol.specs.Step as machine
-use Rattle.board_state.specs.declared.change.Answer.{Answer}
-use Rattle.board_state.specs.declared.change.Answer.TheVariants as answer
-use Rattle.board_state.specs.declared.change.Change.{Change}
-use Rattle.board_state.specs.declared.change.Change.TheVariants.{Make, Remove, Mask, Deposit, Tick, Step, Open, Adopt}
-use Rattle.board_state.specs.declared.change.Change.TheVariants as change
-use Rattle.board_state.specs.State.{State, start, refusal, happens, next, problem_of, dirs_of, plan_orders}
-use Rattle.board_state.specs.Steps.{Present, IsAllowed, IsBalance, IsStep}
-use Rattle.board_state.proofs.Accepted.{has_place}
+use Rattle.mds_board.specs.declared.change.Answer.{Answer}
+use Rattle.mds_board.specs.declared.change.Answer.TheVariants as answer
+use Rattle.mds_board.specs.declared.change.Change.{Change}
+use Rattle.mds_board.specs.declared.change.Change.TheVariants.{Make, Remove, Mask, Deposit, Tick, Step, Open, Adopt}
+use Rattle.mds_board.specs.declared.change.Change.TheVariants as change
+use Rattle.mds_board.specs.State.{State, start, refusal, happens, next, problem_of, dirs_of, plan_orders}
+use Rattle.mds_board.specs.Steps.{Present, IsAllowed, IsBalance, IsStep}
+use Rattle.mds_board.proofs.Accepted.{has_place}
 use Rattle.mds_board.specs.declared.entry.Entry.{Entry}
 use Rattle.mds_board.specs.History.{recorded, IsReplay, IsHistory, entry_of, world_of}
 

@@ -3,8 +3,8 @@ use Rattle.std.proofs.Common.{◌≡◌, ◌∙◌, ◌+◌, ℕ, zero, suc, Lis
 use Rattle.std.proofs.lemmas.List.{get_or_append_left, map-append}
 use Rattle.std.proofs.lemmas.List.Elements.{All-append, All-head, All-tail}
 use Rattle.std.proofs.Math.Seq.{get_or-append_seam}
-use Rattle.board_state.specs.declared.change.Answer.TheVariants.{Done}
-use Rattle.board_state.specs.declared.change.Change.TheVariants.{Tick}
+use Rattle.mds_board.specs.declared.change.Answer.TheVariants.{Done}
+use Rattle.mds_board.specs.declared.change.Change.TheVariants.{Tick}
 use Rattle.mds_board.specs.declared.entry.Entry.{Entry}
 use Rattle.mds_board.specs.declared.history.Slot.{Slot}
 use Rattle.mds_board.specs.declared.history.Slot.TheVariants as slot

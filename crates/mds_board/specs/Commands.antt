@@ -3,12 +3,12 @@ use Rattle.std.specs.Prelude.{◌≡◌, ◌⊎◌, Bool, true, List, [], ◌∷
 use Rattle.mds_types.specs.declared.plan.Plan.{Plan}
 use Rattle.mds_types.specs.Certificate.{IsBest, IsCertified}
 use Rattle.plan_checker.specs.Present.{KeepsBest}
-use Rattle.board_state.specs.declared.board_error.BoardError.{BoardError}
-use Rattle.board_state.specs.declared.board_error.BoardError.TheVariants.{Memory}
-use Rattle.board_state.specs.declared.change.Answer.{Answer}
-use Rattle.board_state.specs.declared.change.Change.TheVariants as change
-use Rattle.board_state.specs.State.{balance_refusal, happens, next, problem_of, refusal}
-use Rattle.board_state.specs.Steps.{is_inner}
+use Rattle.mds_board.specs.declared.board_error.BoardError.{BoardError}
+use Rattle.mds_board.specs.declared.board_error.BoardError.TheVariants.{Memory}
+use Rattle.mds_board.specs.declared.change.Answer.{Answer}
+use Rattle.mds_board.specs.declared.change.Change.TheVariants as change
+use Rattle.mds_board.specs.State.{balance_refusal, happens, next, problem_of, refusal}
+use Rattle.mds_board.specs.Steps.{is_inner}
 use Rattle.mds_board.specs.declared.command.BoardCommand.{BoardCommand}
 use Rattle.mds_board.specs.declared.command.BoardCommand.TheVariants as command
 use Rattle.mds_board.specs.History.{World, IsAnswer, recorded}

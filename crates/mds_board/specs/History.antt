@@ -1,11 +1,11 @@
 -- The stored history of a board, and what its replay gives.
 use Rattle.std.specs.Prelude.{◌≡◌, ◌≤◌, ℕ, Bool, false, List, [], ◌∷◌, ◌++◌, length, Result, Ok, Err, None}
 use Rattle.authority_map.specs.Operations.{Operation}
-use Rattle.board_state.specs.declared.board_error.BoardError.{BoardError}
-use Rattle.board_state.specs.declared.change.Answer.{Answer}
-use Rattle.board_state.specs.declared.change.Change.{Change}
-use Rattle.board_state.specs.State.{State, start, refusal, happens, next}
-use Rattle.board_state.specs.Steps.{Present, IsAllowed, IsDue}
+use Rattle.mds_board.specs.declared.board_error.BoardError.{BoardError}
+use Rattle.mds_board.specs.declared.change.Answer.{Answer}
+use Rattle.mds_board.specs.declared.change.Change.{Change}
+use Rattle.mds_board.specs.State.{State, start, refusal, happens, next}
+use Rattle.mds_board.specs.Steps.{Present, IsAllowed, IsDue}
 use Rattle.mds_board.specs.declared.entry.Entry.{Entry}
 
 -- What contracts see of a board: its state, whether its ledger is open, how many shares that has, how much of the map

@@ -3,9 +3,9 @@ use Rattle.std.specs.Option.{option_and_then}
 use Rattle.std.specs.Prelude.{ℕ, List, slice_get, Option, Some, None}
 use Rattle.mds_types.specs.declared.plan.Plan.{Plan}
 use Rattle.mds_types.specs.Certificate.{IsBest}
-use Rattle.board_state.specs.declared.change.Change.{Change}
-use Rattle.board_state.specs.declared.change.Change.TheVariants.{Adopt}
-use Rattle.board_state.specs.State.{Force}
+use Rattle.mds_board.specs.declared.change.Change.{Change}
+use Rattle.mds_board.specs.declared.change.Change.TheVariants.{Adopt}
+use Rattle.mds_board.specs.State.{Force}
 use Rattle.mds_board.specs.declared.entry.Entry.{Entry}
 use Rattle.mds_board.specs.History.{World}
 

@@ -2,4 +2,8 @@ pub mod Commands
 pub mod History
 pub mod InForce
 pub mod Promises
+pub mod Refused
+pub mod State
+pub mod Steps
 pub mod Stored
+pub mod Weights

@@ -7,18 +7,18 @@ use Rattle.mds_types.specs.Certificate.{IsBest, IsCertified}
 use Rattle.mds_types.specs.Problem.{ProblemData}
 use Rattle.mds_types.specs.RankSet.{rank_count}
 use Rattle.mds_types.specs.declared.plan.Plan.{Plan}
-use Rattle.board_problem.specs.DirDivision.{IsDirDivision, greatest_dir_heat}
+use Rattle.tree_parts.specs.DirDivision.{IsDirDivision, greatest_dir_heat}
 use Rattle.export_protocol.specs.declared.event.Event.{Event}
 use Rattle.export_protocol.specs.declared.event.Event.TheVariants.{Made, Gone, Begin}
 use Rattle.export_protocol.specs.Step as machine
 use Rattle.export_protocol.specs.Promises.{Promised}
-use Rattle.board_state.specs.declared.change.Answer.{Answer}
-use Rattle.board_state.specs.declared.change.Answer.TheVariants as answer
-use Rattle.board_state.specs.declared.change.Change.{Change}
-use Rattle.board_state.specs.declared.change.Change.TheVariants.{Make, Remove, Deposit, Tick, Step, Open, Adopt}
-use Rattle.board_state.specs.declared.change.Change.TheVariants as change
-use Rattle.board_state.specs.State.{State, start, problem_of, usable}
-use Rattle.board_state.specs.Steps.{IsFitting}
+use Rattle.mds_board.specs.declared.change.Answer.{Answer}
+use Rattle.mds_board.specs.declared.change.Answer.TheVariants as answer
+use Rattle.mds_board.specs.declared.change.Change.{Change}
+use Rattle.mds_board.specs.declared.change.Change.TheVariants.{Make, Remove, Deposit, Tick, Step, Open, Adopt}
+use Rattle.mds_board.specs.declared.change.Change.TheVariants as change
+use Rattle.mds_board.specs.State.{State, start, problem_of, usable}
+use Rattle.mds_board.specs.Steps.{IsFitting}
 use Rattle.mds_board.specs.declared.entry.Entry.{Entry}
 use Rattle.mds_board.specs.History.{World, IsReplay, after}
 

@@ -4,8 +4,8 @@ use Rattle.std.specs.Global.{Global}
 use Rattle.std.specs.Prelude.{◌≤◌, ◌<◌, ◌-◌, ℕ, List, length, map, slice_index_or, Vec, vec_len, vec_capacity}
 use Rattle.export_protocol.specs.declared.event.Event.TheVariants.{Begin, End}
 use Rattle.export_protocol.specs.declared.event.Reply.TheVariants.{Changed, Ticket}
-use Rattle.board_state.specs.declared.change.Answer.TheVariants.{Done, Reply}
-use Rattle.board_state.specs.declared.change.Change.TheVariants.{Step, Tick}
+use Rattle.mds_board.specs.declared.change.Answer.TheVariants.{Done, Reply}
+use Rattle.mds_board.specs.declared.change.Change.TheVariants.{Step, Tick}
 use Rattle.mds_board.specs.declared.entry.Entry.{Entry}
 use Rattle.mds_board.specs.declared.history.Shown.{Shown}
 use Rattle.mds_board.specs.declared.history.Shown.TheVariants as shown

@@ -7,21 +7,21 @@ ghost use Rattle.mds_types.specs.declared.plan.Plan.{Plan};
 ghost use Rattle.heat_ledger.specs.Opening.{fresh_share};
 ghost use Rattle.heat_ledger.specs.Ledger.{IsClean, begun_of, hits_of, pending_of, weight_of};
 ghost use Rattle.heat_ledger.specs.Rows.{at, counted_rows, raised};
-ghost use Rattle.board_state.specs.State.{balance_refusal, first_operations, happens, next, problem_of, refusal, start};
-ghost use Rattle.board_state.specs.Steps.{is_inner, spelled};
+ghost use Rattle.mds_board.specs.State.{balance_refusal, first_operations, happens, next, problem_of, refusal, start};
+ghost use Rattle.mds_board.specs.Steps.{is_inner, spelled};
 ghost use Rattle.mds_board.specs.History.{IsAnswer, recorded};
 ghost use Rattle.mds_board.specs.Stored.{HasRoom};
 
 use crate::history::History;
-use authority_map::Publisher;
-use board_state::{
+use crate::{
     Answer, BoardError, BoardParts, BoardState, Change, KeptEvent, KeptPlan, Solver, or_memory,
 };
+use authority_map::Publisher;
 use dirtree::Name;
 use export_protocol::{Event, Reply};
 use heat_ledger::{Missing, Share};
 use mds_types::{Dir, Order, Plan, Problem, Rank, RankSet};
-use naming::Naming;
+use proof_names::Naming;
 use std::alloc::{AllocError, Global};
 use std::marker::Model;
 use std::thread::Threads;
@@ -176,7 +176,7 @@ impl<J: Naming, M: Publisher<J>> Board<J, M> {
     }
 
     /// A request on a directory begins at a rank, and is counted in a share.
-    #[tactic(auto, unfolding(board_state::specs::State::happens, export_protocol::specs::Step::happens))]
+    #[tactic(auto, unfolding(crate::specs::State::happens, export_protocol::specs::Step::happens))]
     pub fn begin(&mut self, share: &mut Share<J>, rank: Rank, dir: Dir) -> Result<Reply, BoardError>
         ensures answer { IsAnswer self.old (Change.Step (Event.Begin rank dir)) (spelled Answer.Reply result) self.new }
         ensures share { OnOk result (share.new ≡ record share.old { begun = raised share.old.begun dir }) }
@@ -206,7 +206,7 @@ impl<J: Naming, M: Publisher<J>> Board<J, M> {
     }
 
     // The request of a ticket ends.
-    #[tactic(auto, unfolding(board_state::specs::State::happens, export_protocol::specs::Step::happens))]
+    #[tactic(auto, unfolding(crate::specs::State::happens, export_protocol::specs::Step::happens))]
     fn end_request(&mut self, alloc: Global, ticket: u32) -> Result<Reply, BoardError>
         ensures { IsAnswer self.old (Change.Step (Event.End ticket)) (spelled Answer.Reply result) self.new }
     {
@@ -260,7 +260,7 @@ impl<J: Naming, M: Publisher<J>> Board<J, M> {
     /// Opens the problem, solves it and adopts the plan: two events. It returns the plan's orders, as the history has
     /// them. Where the present placement is itself best, the plan moves nothing. It fails only for a full history, a
     /// balancer that is off, or memory.
-    #[tactic(auto, unfolding(board_state::specs::State::happens))]
+    #[tactic(auto, unfolding(crate::specs::State::happens))]
     pub fn balance<S: Solver, R: Threads + Sync>(
         &mut self,
         rt: &R,

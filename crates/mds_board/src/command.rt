@@ -1,6 +1,6 @@
 //! What a list asks of a board.
 
-use board_state::is_inner;
+use crate::is_inner;
 use dirtree::Name;
 use export_protocol::Event;
 use mds_types::{Dir, RankSet};

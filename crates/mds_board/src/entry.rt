@@ -1,6 +1,6 @@
 //! Entries of a board's history.
 
-use board_state::{Answer, Change};
+use crate::{Answer, Change};
 
 /// An accepted change, with its reply.
 #[derive(Drop)]

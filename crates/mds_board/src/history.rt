@@ -4,7 +4,7 @@ ghost use Rattle.std.specs.Option.{option_map};
 ghost use Rattle.mds_board.specs.Stored.{HasRoom, began, ended, shown_entry};
 
 use crate::entry::Entry;
-use board_state::{Answer, Balanced, Change, KeptEvent};
+use crate::{Answer, Balanced, Change, KeptEvent};
 use export_protocol::Reply;
 use mds_types::{Dir, Order, Rank};
 use std::alloc::{AllocError, Global};

@@ -1,9 +1,9 @@
 //! What holds of every change of a board.
 ghost use Rattle.std.specs.Prelude.{◌≡◌, Result, Ok, Err};
-ghost use Rattle.board_state.specs.declared.board_error.BoardError.{BoardError};
-ghost use Rattle.board_state.specs.declared.board_error.BoardError.TheVariants.{Memory};
-ghost use Rattle.board_state.specs.declared.change.Answer.{Answer};
-ghost use Rattle.board_state.specs.declared.change.Change.{Change};
+ghost use Rattle.mds_board.specs.declared.board_error.BoardError.{BoardError};
+ghost use Rattle.mds_board.specs.declared.board_error.BoardError.TheVariants.{Memory};
+ghost use Rattle.mds_board.specs.declared.change.Answer.{Answer};
+ghost use Rattle.mds_board.specs.declared.change.Change.{Change};
 ghost use Rattle.mds_board.specs.History.{World, IsAnswer};
 
 /// A change that was refused because no memory was left loses nothing: when it is made again, the untouched board

@@ -7,7 +7,7 @@ ghost use Rattle.dir_pins.specs.Pins.{nearest_pin};
 use crate::board::Board;
 use authority_map::{MapReader, Publisher};
 use mds_types::{Dir, Rank};
-use naming::Naming;
+use proof_names::Naming;
 
 impl<J: Naming, M: Publisher<J>> Board<J, M> {
     /// The number that directory numbers are below.

@@ -2,7 +2,7 @@
 ghost use Rattle.std.specs.Prelude.{◌≡◌, ◌++◌, IfOk, MatchOption, None, OnOk};
 ghost use Rattle.std.specs.Option.{option_map};
 ghost use Rattle.heat_ledger.specs.Rows.{at, entry};
-ghost use Rattle.board_state.specs.State.{pin_orders, usable};
+ghost use Rattle.mds_board.specs.State.{pin_orders, usable};
 ghost use Rattle.mds_board.specs.InForce.{IsBestInForce, adopted, adopted_at, plan_in_force};
 ghost use Rattle.export_protocol.specs.Step.{run, start};
 ghost use Rattle.mds_board.specs.Promises.{IsKept, cluster_event, cluster_events};
@@ -10,15 +10,15 @@ ghost use Rattle.mds_board.specs.Stored.{shown_entry};
 
 use crate::board::Board;
 use crate::history::{History, Shown};
+use crate::{Change, InForce, OpenProblem};
 use authority_map::{Published, Publisher};
-use board_state::{Change, InForce, OpenProblem};
 use dir_pins::Pins;
 use dirtree::Tree;
 use export_machine::Cluster;
 use export_protocol::Event;
 use heat_decay::Heat;
 use mds_types::{Dir, Kind, Order, Plan, RankSet};
-use naming::Naming;
+use proof_names::Naming;
 use std::alloc::{AllocError, Global};
 
 impl<J: Naming, M: Publisher<J>> Board<J, M> {

@@ -1,15 +1,15 @@
 //! Lists of commands.
 ghost use Rattle.std.specs.Prelude.{◌≡◌, All, IfOk, OnErr, true};
-ghost use Rattle.board_state.specs.Steps.{is_inner, spelled};
+ghost use Rattle.mds_board.specs.Steps.{is_inner, spelled};
 ghost use Rattle.mds_board.specs.History.{IsAnswer};
 ghost use Rattle.mds_board.specs.Commands.{AreCarriedOut, IsCarriedOut, is_fit};
 
 use crate::board::Board;
 use crate::command::BoardCommand;
+use crate::{Answer, BoardError, Change, Orders, Solver, or_memory};
 use authority_map::Publisher;
-use board_state::{Answer, BoardError, Change, Orders, Solver, or_memory};
 use export_protocol::{Event, Reply};
-use naming::Naming;
+use proof_names::Naming;
 use std::alloc::{AllocError, Global};
 use std::thread::Threads;
 

@@ -5,13 +5,13 @@ use Rattle.std.specs.Prelude.{IfOk, OnErr}
 use Rattle.export_protocol.specs.Step as machine
 use Rattle.export_protocol.specs.declared.event.Event.TheVariants.{Begin}
 use Rattle.export_protocol.specs.declared.event.Reply.TheVariants.{Ticket}
-use Rattle.board_state.specs.declared.board_error.BoardError.{BoardError}
-use Rattle.board_state.specs.declared.change.Answer.{Answer}
-use Rattle.board_state.specs.declared.change.Answer.TheVariants as answer
-use Rattle.board_state.specs.declared.change.Change.TheVariants.{Step}
-use Rattle.board_state.specs.State as state
-use Rattle.board_state.specs.State.{State}
-use Rattle.board_state.specs.Steps.{spelled}
+use Rattle.mds_board.specs.declared.board_error.BoardError.{BoardError}
+use Rattle.mds_board.specs.declared.change.Answer.{Answer}
+use Rattle.mds_board.specs.declared.change.Answer.TheVariants as answer
+use Rattle.mds_board.specs.declared.change.Change.TheVariants.{Step}
+use Rattle.mds_board.specs.State as state
+use Rattle.mds_board.specs.State.{State}
+use Rattle.mds_board.specs.Steps.{spelled}
 use Rattle.export_rounds.specs.Moments.{IsSince}
 use Rattle.mds_board.specs.History.{World, IsAnswer}
 use Rattle.mds_board.specs.Stored.{began}

@@ -8,23 +8,23 @@ use Rattle.export_protocol.specs.Step as machine
 use Rattle.export_protocol.specs.declared.event.Event.{Event}
 use Rattle.export_protocol.proofs.Frame.{delivered_frame}
 use Rattle.heat_ledger.specs.declared.dir_hits.DirHits.{DirHits}
-use Rattle.board_state.proofs.Mapping.{after_step}
+use Rattle.mds_board.proofs.Mapping.{after_step}
 use Rattle.export_rounds.specs.Adding.{IsOfPhase}
 use Rattle.export_protocol.specs.declared.event.Event.TheVariants.{Made, Gone, Begin, End, Start, Deliver, Froze, Notify, Abort, Stop, Restart, Ask}
 use Rattle.export_protocol.specs.declared.event.Reply.TheVariants.{Ticket}
 use Rattle.export_protocol.specs.declared.event.Request.{Request}
 use Rattle.export_protocol.specs.declared.step_error.StepError.{StepError}
 use Rattle.export_protocol.specs.declared.step_error.StepError.TheVariants.{HistoryFull, NoTicket}
-use Rattle.board_state.specs.declared.board_error.BoardError.{BoardError}
-use Rattle.board_state.specs.declared.board_error.BoardError.TheVariants as error
-use Rattle.board_state.specs.declared.change.Answer.{Answer}
-use Rattle.board_state.specs.declared.change.Answer.TheVariants as answer
-use Rattle.board_state.specs.declared.change.Change.{Change}
-use Rattle.board_state.specs.declared.change.Change.TheVariants.{Make, Remove, Mask, Deposit, Tick, Step, Open, Adopt}
-use Rattle.board_state.specs.declared.change.Change.TheVariants as change
-use Rattle.board_state.specs.State as state
-use Rattle.board_state.specs.State.{State}
-use Rattle.board_state.specs.Steps.{IsDue, is_inner}
+use Rattle.mds_board.specs.declared.board_error.BoardError.{BoardError}
+use Rattle.mds_board.specs.declared.board_error.BoardError.TheVariants as error
+use Rattle.mds_board.specs.declared.change.Answer.{Answer}
+use Rattle.mds_board.specs.declared.change.Answer.TheVariants as answer
+use Rattle.mds_board.specs.declared.change.Change.{Change}
+use Rattle.mds_board.specs.declared.change.Change.TheVariants.{Make, Remove, Mask, Deposit, Tick, Step, Open, Adopt}
+use Rattle.mds_board.specs.declared.change.Change.TheVariants as change
+use Rattle.mds_board.specs.State as state
+use Rattle.mds_board.specs.State.{State}
+use Rattle.mds_board.specs.Steps.{IsDue, is_inner}
 use Rattle.export_rounds.proofs.Going.{head_has, tail_have}
 use Rattle.mds_board.specs.declared.entry.Entry.{Entry}
 use Rattle.mds_board.specs.History.{World, IsAnswer, IsReplay, entry_of}

@@ -8,12 +8,12 @@ use mathlib.Core.List.{IsPrefix}
 use Rattle.export_protocol.specs.declared.event.Event.TheVariants.{Begin, End}
 use Rattle.export_protocol.specs.declared.step_error.StepError.{StepError}
 use Rattle.export_protocol.specs.Step as machine
-use Rattle.board_state.specs.declared.board_error.BoardError.{BoardError}
-use Rattle.board_state.specs.declared.board_error.BoardError.TheVariants as error
-use Rattle.board_state.specs.declared.change.Change.{Change}
-use Rattle.board_state.specs.State as state
-use Rattle.board_state.specs.State.{State}
-use Rattle.board_state.specs.Steps.{IsDue}
+use Rattle.mds_board.specs.declared.board_error.BoardError.{BoardError}
+use Rattle.mds_board.specs.declared.board_error.BoardError.TheVariants as error
+use Rattle.mds_board.specs.declared.change.Change.{Change}
+use Rattle.mds_board.specs.State as state
+use Rattle.mds_board.specs.State.{State}
+use Rattle.mds_board.specs.Steps.{IsDue}
 use Rattle.export_rounds.proofs.Going.{tail_have}
 use Rattle.mds_board.specs.declared.entry.Entry.{Entry}
 use Rattle.mds_board.specs.History.{World, IsReplay}

@@ -5,10 +5,10 @@ use Rattle.std.proofs.lemmas.List.Elements.{All-append}
 use Rattle.std.specs.List.{count_by}
 use Rattle.export_protocol.specs.declared.event.Request.{Request}
 use Rattle.export_protocol.specs.Step as machine
-use Rattle.board_state.specs.declared.board_error.BoardError.{BoardError}
-use Rattle.board_state.specs.declared.change.Answer.{Answer}
-use Rattle.board_state.specs.declared.change.Change.{Change}
-use Rattle.board_state.specs.State.{State, happens, next}
+use Rattle.mds_board.specs.declared.board_error.BoardError.{BoardError}
+use Rattle.mds_board.specs.declared.change.Answer.{Answer}
+use Rattle.mds_board.specs.declared.change.Change.{Change}
+use Rattle.mds_board.specs.State.{State, happens, next}
 use Rattle.export_rounds.specs.Adding.{GoesOnBy, IsOfPhase}
 use Rattle.export_rounds.specs.Asked.{AreAsked, is_begun}
 use Rattle.export_rounds.specs.Further.{IsFurther, IsPublished}

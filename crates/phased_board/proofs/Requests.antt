@@ -2,9 +2,9 @@
 use Rattle.std.proofs.Common.{◌≡◌, ℕ, true, List}
 use Rattle.export_protocol.specs.declared.event.Event.TheVariants.{Made, Gone, Begin, End, Start, Deliver, Froze, Notify, Abort, Stop, Restart, Ask}
 use Rattle.heat_ledger.specs.declared.dir_hits.DirHits.{DirHits}
-use Rattle.board_state.specs.declared.change.Change.{Change}
-use Rattle.board_state.specs.declared.change.Change.TheVariants.{Make, Remove, Mask, Deposit, Tick, Step, Open, Adopt}
-use Rattle.board_state.specs.declared.change.Change.TheVariants as change
+use Rattle.mds_board.specs.declared.change.Change.{Change}
+use Rattle.mds_board.specs.declared.change.Change.TheVariants.{Make, Remove, Mask, Deposit, Tick, Step, Open, Adopt}
+use Rattle.mds_board.specs.declared.change.Change.TheVariants as change
 use Rattle.phased_board.specs.Going.{is_of_requests}
 
 -- what holds of each request that begins, of each end and of each deposit holds of each change of requests

@@ -7,10 +7,10 @@ use Rattle.export_protocol.specs.declared.step_error.StepError.TheVariants.{NoTi
 use Rattle.export_protocol.specs.Authority.{request_of}
 use Rattle.export_protocol.specs.Step as machine
 use Rattle.export_rounds.specs.Moments.{IsMet, IsSince}
-use Rattle.board_state.specs.declared.board_error.BoardError.{BoardError}
-use Rattle.board_state.specs.declared.board_error.BoardError.TheVariants as board_error
-use Rattle.board_state.specs.declared.change.Change.TheVariants.{Step}
-use Rattle.board_state.specs.State.{refusal}
+use Rattle.mds_board.specs.declared.board_error.BoardError.{BoardError}
+use Rattle.mds_board.specs.declared.board_error.BoardError.TheVariants as board_error
+use Rattle.mds_board.specs.declared.change.Change.TheVariants.{Step}
+use Rattle.mds_board.specs.State.{refusal}
 use Rattle.mds_board.specs.declared.entry.Entry.{Entry}
 use Rattle.mds_board.specs.History.{World}
 use Rattle.mds_board.specs.Stored.{began}

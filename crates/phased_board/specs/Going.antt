@@ -3,8 +3,8 @@ use Rattle.std.specs.Prelude.{◌≡◌, ◌≤◌, ◌+◌, ◌⊎◌, ℕ, Boo
 use mathlib.Core.List.{IsPrefix}
 use Rattle.authority_map.specs.Operations.{rank_after}
 use Rattle.export_protocol.specs.declared.event.Event.TheVariants.{Begin, End}
-use Rattle.board_state.specs.declared.change.Change.{Change}
-use Rattle.board_state.specs.declared.change.Change.TheVariants.{Deposit, Step}
+use Rattle.mds_board.specs.declared.change.Change.{Change}
+use Rattle.mds_board.specs.declared.change.Change.TheVariants.{Deposit, Step}
 use Rattle.export_rounds.specs.Adding.{IsOfPhase}
 use Rattle.export_rounds.specs.Asked.{AreAsked, is_begun}
 use Rattle.export_rounds.specs.Further.{IsPublished}

@@ -1,6 +1,6 @@
 //! Requests that still run when the threads of a phase have joined end.
 ghost use Rattle.std.specs.Prelude.{◌≡◌, ◌⊎◌, ◌↔◌, ◌++◌, ◌<◌, ℕ, IsOk, List, None, Some, length, slice_get};
-ghost use Rattle.board_state.specs.declared.change.Answer.TheVariants as answer;
+ghost use Rattle.mds_board.specs.declared.change.Answer.TheVariants as answer;
 ghost use Rattle.export_protocol.specs.Authority.{request_of};
 ghost use Rattle.export_protocol.specs.declared.event.Reply.TheVariants as reply;
 ghost use Rattle.mds_board.specs.declared.entry.Entry.{Entry};
@@ -9,10 +9,9 @@ ghost use Rattle.phased_board.specs.Begun.{IsEndMet, IsEndTold};
 
 use crate::phased::{Phase, Phased};
 use authority_map::Publisher;
-use board_state::{Answer, BoardError};
 use export_protocol::Reply;
-use mds_board::Shown;
-use naming::Naming;
+use mds_board::{Answer, BoardError, Shown};
+use proof_names::Naming;
 use std::alloc::Global;
 
 /// The first refusal, if there is one.

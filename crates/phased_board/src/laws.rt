@@ -1,8 +1,8 @@
 //! How the boards of a phase relate to each other.
 ghost use Rattle.std.specs.Prelude.{◌≡◌, ◌≤◌, length, true};
 ghost use mathlib.Core.List.{IsPrefix};
-ghost use Rattle.board_state.specs.declared.board_error.BoardError.TheVariants.{HistoryFull};
-ghost use Rattle.board_state.specs.declared.change.Change.{Change as TheChange};
+ghost use Rattle.mds_board.specs.declared.board_error.BoardError.TheVariants.{HistoryFull};
+ghost use Rattle.mds_board.specs.declared.change.Change.{Change as TheChange};
 ghost use Rattle.mds_board.specs.History.{World};
 ghost use Rattle.mds_board.specs.Promises.{IsKept};
 ghost use Rattle.export_rounds.specs.Moments.{IsMet};

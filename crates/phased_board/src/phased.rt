@@ -2,7 +2,7 @@
 ghost use Rattle.std.specs.Prelude.{◌≡◌, ◌≤◌, ◌↔◌, ◌+◌, ◌++◌, ◌∷◌, [], Some, count_by, replicate};
 ghost use Rattle.std.specs.Prelude.{IfErr, IfOk, IsTrue, OnErr, OnOk};
 ghost use Rattle.heat_ledger.specs.Rows.{counted_rows, raised};
-ghost use Rattle.board_state.specs.Steps.{spelled};
+ghost use Rattle.mds_board.specs.Steps.{spelled};
 ghost use Rattle.export_protocol.specs.Step.{refusal};
 ghost use Rattle.export_rounds.specs.Asked.{AreAsked, is_begun};
 ghost use Rattle.export_rounds.specs.Moments.{IsMet};
@@ -10,20 +10,18 @@ ghost use Rattle.mds_board.specs.History.{IsAnswer};
 ghost use Rattle.mds_board.specs.Promises.{IsKept};
 ghost use Rattle.phased_board.specs.Begun.{IsBegun};
 ghost use Rattle.phased_board.specs.Going.{IsOnTheWay, WasPublished, WentOnBy};
-ghost use Rattle.seen_log.specs.Numbers.{AreApart};
+ghost use Rattle.proof_names.specs.Numbers.{AreApart};
 ghost use mathlib.Core.List.{IsPrefix};
 
 use authority_map::Publisher;
-use board_state::{Answer, BoardError, Change};
 use export_machine::Cluster;
 use export_protocol::{Event, Reply, StepError};
 use export_rounds::starting::settle_at;
 use export_rounds::{ExportSide, Standing};
 use heat_ledger::Share;
-use mds_board::{Board, Entry};
+use mds_board::{Answer, Board, BoardError, Change, Entry};
 use mds_types::{Dir, Rank};
-use naming::Naming;
-use seen_log::{Given, Log, LogName, NewLog, NewNumbers, Numbers, NumbersName, Sight};
+use proof_names::{Given, Log, LogName, Naming, NewLog, NewNumbers, Numbers, NumbersName, Sight};
 use std::alloc::Global;
 use std::marker::{Brand, Model, PhantomData};
 
@@ -302,7 +300,7 @@ impl<J: Naming, M: Publisher<J>, K: Phase> ExportSide for Phased<J, M, K> {
 }
 
 // A request begins. It returns the ticket.
-#[tactic(auto, unfolding(board_state::specs::State::happens, export_protocol::specs::Step::happens))]
+#[tactic(auto, unfolding(mds_board::specs::State::happens, export_protocol::specs::Step::happens))]
 fn begin<J: Naming, M: Publisher<J>>(
     board: &mut Board<J, M>,
     share: &mut Share<J>,

@@ -6,9 +6,9 @@ use Rattle.mds_types.specs.Problem.{ProblemData}
 use Rattle.mds_types.specs.Placing.{cost}
 use Rattle.mds_types.specs.RankSet.{rank_count}
 use Rattle.mds_types.proofs.CertificateLemmas.{IsCertified-from}
-use Rattle.cost_table.specs.Costs.{cell_at, chosen_cost, AreCosts}
-use Rattle.cost_table.specs.Prices.{ArePrices}
-use Rattle.cost_table.proofs.PriceLemmas.{prices_over, dual_from_prices, prices_from_dual, moved-cells}
+use Rattle.plan_checker.specs.Costs.{cell_at, chosen_cost, AreCosts}
+use Rattle.plan_checker.specs.CostPrices.{ArePrices}
+use Rattle.plan_checker.proofs.PriceLemmas.{prices_over, dual_from_prices, prices_from_dual, moved-cells}
 
 -- a plan with a certified division and different ranks is certified where its placing holds
 pub certified_by_placing :

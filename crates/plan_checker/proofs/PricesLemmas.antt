@@ -4,8 +4,8 @@ use Rattle.mds_types.specs.declared.dual_proof.DualProof.{DualProof}
 use Rattle.mds_types.specs.RankSet.{has_rank, rank_count}
 use Rattle.mds_types.specs.Certificate.{AreRanks, part_price_at, rank_price_at}
 use Rattle.mds_types.proofs.PlacingLemmas.{has_rank-lt}
-use Rattle.cost_table.specs.Costs.{cell_at, cell_at_place, rank_place}
-use Rattle.cost_table.specs.Prices.{ArePrices}
+use Rattle.plan_checker.specs.Costs.{cell_at, cell_at_place, rank_place}
+use Rattle.plan_checker.specs.CostPrices.{ArePrices}
 use Rattle.plan_checker.specs.Prices.{RankPriceHolds}
 
 -- prices hold where they hold at each rank of the set

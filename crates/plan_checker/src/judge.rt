@@ -3,8 +3,8 @@
 //! They trust nobody: labels out of range, lists of any length and numbers up to the limits of their
 //! types are answered no.
 ghost use Rattle.std.specs.Prelude.{◌≡◌, ◌≤◌, ◌*◌, ◌^◌, ◌↔◌, All, length, slice_index, IfOk, IsTrue};
-ghost use Rattle.cost_table.specs.Costs.{cell_at, chosen_cost};
-ghost use Rattle.cost_table.specs.Prices.{ArePrices};
+ghost use Rattle.plan_checker.specs.Costs.{cell_at, chosen_cost};
+ghost use Rattle.plan_checker.specs.CostPrices.{ArePrices};
 ghost use Rattle.mds_types.specs.Certificate.{AreRanks, IsBest, IsCertified, IsCutCertified, IsCutProof};
 ghost use Rattle.mds_types.specs.Division.{IsLeast};
 ghost use Rattle.mds_types.specs.Problem.{IsForest};
@@ -13,7 +13,7 @@ ghost use Rattle.mds_types.specs.RankSet.{rank_count};
 use crate::cut_table::is_cut_table;
 use crate::part_list::hottest_part;
 use crate::prices::{are_prices, are_ranks};
-use cost_table::{chosen_sum, costs};
+use crate::{chosen_sum, costs};
 use mds_types::{CutProof, DualProof, Plan, Problem, ProblemRow, Rank, RankSet};
 use std::alloc::{AllocError, Global};
 

@@ -5,11 +5,11 @@ ghost use Rattle.std.specs.Prelude.{◌≡◌, ◌≢◌, ◌<◌, ◌≤◌, �
 ghost use Rattle.std.specs.Prelude.{length, slice_index, slice_index_or, IsTrue};
 ghost use Rattle.mds_types.specs.Certificate.{AreRanks};
 ghost use Rattle.mds_types.specs.RankSet.{rank_count};
-ghost use Rattle.cost_table.specs.Costs.{cell_at, cell_at_place};
-ghost use Rattle.cost_table.specs.Prices.{ArePrices};
+ghost use Rattle.plan_checker.specs.Costs.{cell_at, cell_at_place};
+ghost use Rattle.plan_checker.specs.CostPrices.{ArePrices};
 ghost use Rattle.plan_checker.specs.Prices.{RankPriceHolds, dual_of};
 
-use cost_table::cell_at_place;
+use crate::cell_at_place;
 use mds_types::{DualProof, Rank, RankSet};
 
 /// Whether these are different ranks of the set.

@@ -14,10 +14,10 @@ use Rattle.minmax_search.specs.declared.found.BestCut.{BestCut}
 use Rattle.minmax_search.specs.Found.{IsFound}
 use Rattle.rank_assign.specs.Assigned.{CostData}
 use Rattle.rank_assign.specs.declared.assigned.Assigned.{Assigned}
-use Rattle.cost_table.specs.Costs.{cell_at, chosen_cost, AreCosts}
-use Rattle.cost_table.specs.Prices.{ArePrices}
+use Rattle.plan_checker.specs.Costs.{cell_at, chosen_cost, AreCosts}
+use Rattle.plan_checker.specs.CostPrices.{ArePrices}
 use Rattle.planner.specs.Present.{IsBestDivision}
-use Rattle.cost_table.proofs.PriceLemmas.{prices_over, dual_from_prices, moved-cells}
+use Rattle.plan_checker.proofs.PriceLemmas.{prices_over, dual_from_prices, moved-cells}
 
 -- a cut that was found is certified
 pub found_certified :

@@ -9,9 +9,9 @@ use Rattle.mds_types.specs.RankSet.{has_rank, rank_count}
 use Rattle.mds_types.specs.Sums.{sum_below, count_below}
 use Rattle.mds_types.proofs.PlacingLemmas.{has_rank-lt}
 use Rattle.mds_types.proofs.SumsLemmas.{sum_below-le, sum_below-same, sum_below-add, sum_below-distinct, sum_below-cover}
-use Rattle.cost_table.specs.Costs.{cell_at, cell_at_place, chosen_cost, rank_place}
-use Rattle.cost_table.specs.Prices.{ArePrices}
-use Rattle.cost_table.proofs.PlaceLemmas.{place_inside}
+use Rattle.plan_checker.specs.Costs.{cell_at, cell_at_place, chosen_cost, rank_place}
+use Rattle.plan_checker.specs.CostPrices.{ArePrices}
+use Rattle.plan_checker.proofs.PlaceLemmas.{place_inside}
 use Rattle.rank_assign.specs.Matching.{IsMatching}
 
 -- the cell at a rank is the cell at its place

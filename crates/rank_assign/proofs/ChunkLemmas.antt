@@ -3,7 +3,7 @@ use Rattle.std.proofs.Common.{◌≡◌, zero, suc, [], ◌∷◌, refl, ap, get
 use Rattle.std.proofs.lemmas.Nat.{mul-le}
 use Rattle.std.specs.List.{AllZip, range_with_len}
 use Rattle.mds_types.specs.declared.problem.ProblemRow.{ProblemRow}
-use Rattle.cost_table.proofs.BetweenLemmas.{rows_joined, sums_joined}
+use Rattle.plan_checker.proofs.BetweenLemmas.{rows_joined, sums_joined}
 use Rattle.rank_assign.specs.Chunks.{edge, AreSummed}
 
 pub edge_rises : (rows first chunk k : ℕ) → edge rows first chunk k ≤ edge rows first chunk (k + 1)

@@ -1,7 +1,7 @@
 -- Rows in chunks, and the inodes that a rank has of a part in them.
 use Rattle.std.specs.Prelude.{◌≡◌, ◌<◌, ◌≤◌, ◌+◌, ◌*◌, ℕ, min, List, length, slice_index}
 use Rattle.mds_types.specs.declared.problem.ProblemRow.{ProblemRow}
-use Rattle.cost_table.specs.Costs.{AreRows, AreSums}
+use Rattle.plan_checker.specs.Costs.{AreRows, AreSums}
 
 -- each row has one of `count` parts
 pub record AreLabelled (rows : List ProblemRow) (part : List ℕ) (count : ℕ) : Type 0 where

@@ -1,6 +1,6 @@
 -- How much the Hungarian method's tables hold.
 use Rattle.std.specs.Prelude.{◌≡◌, ◌<◌, ◌≤◌, ◌+◌, ◌*◌, ◌^◌, ℕ, List, length, slice_index}
-use Rattle.cost_table.specs.Costs.{cell_at_place}
+use Rattle.plan_checker.specs.Costs.{cell_at_place}
 use Rattle.rank_assign.specs.declared.ways.Way.{Way}
 
 -- there are no more parts than ranks, an owner, a debt and a way for each rank, and a small cell for each part and rank

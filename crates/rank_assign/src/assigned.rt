@@ -1,8 +1,8 @@
 //! The best placing of parts on ranks, with the prices that show that none is better.
 ghost use Rattle.std.specs.Prelude.{◌≡◌, ◌≢◌, ◌<◌, ◌≤◌, ◌+◌, ◌*◌, ◌^◌, ℕ, true, length};
 ghost use Rattle.std.specs.Prelude.{pos, slice_index, slice_index_or, neg_ℤ, IfOk};
-ghost use Rattle.cost_table.specs.Costs.{cell_at, cell_at_place, chosen_cost, rank_place};
-ghost use Rattle.cost_table.specs.Prices.{ArePrices};
+ghost use Rattle.plan_checker.specs.Costs.{cell_at, cell_at_place, chosen_cost, rank_place};
+ghost use Rattle.plan_checker.specs.CostPrices.{ArePrices};
 ghost use Rattle.mds_types.specs.Certificate.{AreRanks};
 ghost use Rattle.mds_types.specs.RankSet.{has_rank, rank_count};
 ghost use Rattle.rank_assign.specs.Matching.{ArePlaced, IsMatching};
@@ -11,8 +11,8 @@ use crate::hungarian::place_parts;
 use crate::table::Costs;
 use crate::ways::Way;
 use arrayvec::ArrayVec;
-use cost_table::chosen_sum;
 use mds_types::{DualProof, Rank, RankSet};
+use plan_checker::chosen_sum;
 use std::alloc::{AllocError, Global};
 
 /// A placing that moves the fewest inodes.

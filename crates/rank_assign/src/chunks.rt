@@ -2,8 +2,8 @@
 ghost use Rattle.std.specs.Prelude.{◌≡◌, ◌<◌, ◌≤◌, ◌+◌, ℕ, length, slice_index_or, IfOk, OnOk};
 ghost use Rattle.rank_assign.specs.Chunks.{edge, AreLabelled, AreSummed};
 
-use cost_table::{add_sums, sums};
 use mds_types::ProblemRow;
+use plan_checker::{add_sums, sums};
 use rayon::prelude::*;
 use std::alloc::{AllocError, Global};
 use std::thread::Threads;

@@ -6,7 +6,7 @@
 //! placed so far are where they cost least. Ranks' prices are never above 0, so they are kept as
 //! debts: how far they are below 0. All numbers are whole.
 ghost use Rattle.std.specs.Prelude.{◌≡◌, ◌≢◌, ◌<◌, ◌≤◌, ◌+◌, ◌-◌, ◌^◌, ℕ, length, slice_index};
-ghost use Rattle.cost_table.specs.Costs.{cell_at_place};
+ghost use Rattle.plan_checker.specs.Costs.{cell_at_place};
 ghost use Rattle.rank_assign.specs.Matching.{ArePlaced, IsMatching};
 ghost use Rattle.rank_assign.specs.Sizes.{CanMatch};
 ghost use Rattle.rank_assign.specs.Ways.{near_at, turn_at, via_at, ArePaths, IsHandedTo};

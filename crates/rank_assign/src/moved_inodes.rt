@@ -1,12 +1,12 @@
 //! What each part of a problem moves at each of its ranks.
 ghost use Rattle.std.specs.Prelude.{◌≡◌, ◌≤◌, length, slice_index, IfOk};
-ghost use Rattle.cost_table.specs.Costs.{AreCosts, AreSums};
+ghost use Rattle.plan_checker.specs.Costs.{AreCosts, AreSums};
 ghost use Rattle.rank_assign.specs.Assigned.{CanPlace};
 
 use crate::chunks::{Labelled, sums_by};
 use crate::table::Costs;
-use cost_table::cells_of_sums;
 use mds_types::Problem;
+use plan_checker::cells_of_sums;
 use std::alloc::{AllocError, Global};
 use std::thread::Threads;
 
@@ -28,7 +28,7 @@ pub fn sums(
     requires inside { to ≤ length problem.now.rows }
     ensures { IfOk result (λ sums. AreSums problem.now.rows (slice_index part.now) count from to sums.items) }
 {
-    cost_table::sums(
+    plan_checker::sums(
         alloc,
         problem.rows(),
         part,

@@ -5,13 +5,13 @@
 //! at the nearest rank that is free. A rank here means its place among the ranks of the set.
 ghost use Rattle.std.specs.Prelude.{◌≡◌, ◌≢◌, ◌<◌, ◌≤◌, ◌+◌, ◌-◌, ◌*◌, ◌^◌, ℕ, true};
 ghost use Rattle.std.specs.Prelude.{false, length, slice_index, slice_index_or};
-ghost use Rattle.cost_table.specs.Costs.{cell_at_place};
+ghost use Rattle.plan_checker.specs.Costs.{cell_at_place};
 ghost use Rattle.rank_assign.specs.Matching.{IsMatching};
 ghost use Rattle.rank_assign.specs.Sizes.{CanMatch, CanStep};
 ghost use Rattle.rank_assign.specs.Ways.{near_at, via_at, turn_at, no_way, IsFirstWay};
 ghost use Rattle.rank_assign.specs.Ways.{IsImproved, IsReached, IsReaching};
 
-use cost_table::cell_at_place;
+use plan_checker::cell_at_place;
 
 /// The way to a rank.
 #[derive(Clone, Copy)]

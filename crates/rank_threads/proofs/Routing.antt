@@ -10,7 +10,7 @@ use Rattle.mds_board.specs.declared.entry.Entry.{Entry}
 use Rattle.mds_board.specs.History.{World}
 use Rattle.rank_threads.specs.declared.work.Work.{Work}
 use Rattle.rank_threads.specs.declared.work.WorkAnswer.{WorkAnswer}
-use Rattle.board_state.specs.declared.board_error.BoardError.{BoardError}
+use Rattle.mds_board.specs.declared.board_error.BoardError.{BoardError}
 use Rattle.rank_threads.specs.Answered.{AreAnswered, IsAnswered}
 use Rattle.rank_threads.specs.Asking.{AreServed}
 use Rattle.rank_threads.specs.Ways.{At, ByMap, Hand, HoldsAsMuch, IsAskedAt, IsByMap, IsFoundAt, IsPublishedAt, Way, hands_of, own_ranks, rank_or_zero}

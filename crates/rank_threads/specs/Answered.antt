@@ -5,8 +5,8 @@ use Rattle.std.specs.List.{AllZip}
 use Rattle.export_protocol.specs.declared.event.Event.TheVariants.{Begin}
 use Rattle.heat_ledger.specs.declared.dir_hits.DirHits.{DirHits}
 use Rattle.export_rounds.specs.Moments.{IsMet}
-use Rattle.board_state.specs.declared.board_error.BoardError.{BoardError}
-use Rattle.board_state.specs.declared.change.Change.TheVariants.{Deposit, Step}
+use Rattle.mds_board.specs.declared.board_error.BoardError.{BoardError}
+use Rattle.mds_board.specs.declared.change.Change.TheVariants.{Deposit, Step}
 use Rattle.mds_board.specs.declared.entry.Entry.{Entry}
 use Rattle.mds_board.specs.History.{World}
 use Rattle.phased_board.specs.Begun.{IsBegun}

@@ -2,7 +2,7 @@
 use Rattle.std.specs.Global.{Global}
 use Rattle.std.specs.List.{All, AllZip}
 use Rattle.std.specs.Prelude.{◌≡◌, ◌≤◌, ℕ, List, [], ◌∷◌, ◌++◌, length, Result, IsOk, Vec, vec_len, vec_capacity}
-use Rattle.board_state.specs.declared.board_error.BoardError.{BoardError}
+use Rattle.mds_board.specs.declared.board_error.BoardError.{BoardError}
 use Rattle.heat_ledger.specs.Ledger.{IsClean, ShareData}
 use Rattle.mds_board.specs.declared.entry.Entry.{Entry}
 use Rattle.mds_board.specs.History.{World}
@@ -12,7 +12,7 @@ use Rattle.rank_threads.specs.Answered.{AreAnswered, IsDepositTold}
 use Rattle.rank_threads.specs.Serving.{AreReturned}
 use Rattle.rank_threads.specs.Tickets.{all_tickets}
 use Rattle.rank_threads.specs.Ways.{Hand, Way, hands_of}
-use Rattle.seen_log.specs.Numbers.{AreApart}
+use Rattle.proof_names.specs.Numbers.{AreApart}
 
 -- what the thread of a rank has, and its script
 pub record Asking : Type 0 where

@@ -1,7 +1,7 @@
 -- Which numbered refusal a request's error is.
 use Rattle.mds_types.specs.declared.refusal.Refusal.{Refusal}
 use Rattle.mds_types.specs.declared.refusal.Refusal.TheVariants as refusal
-use Rattle.board_state.specs.Refused as of_board
+use Rattle.mds_board.specs.Refused as of_board
 use Rattle.heat_ledger.specs.Refused as of_share
 use Rattle.rank_threads.specs.declared.work.WorkError.{WorkError}
 use Rattle.rank_threads.specs.declared.work.WorkError.TheVariants as error

@@ -10,21 +10,19 @@ ghost use Rattle.rank_threads.specs.Asking.{AreLaid, AreServed, IsRoomFor, askin
 ghost use Rattle.phased_board.specs.Going.{WentOn, WentOnBy};
 ghost use Rattle.rank_threads.specs.Serving.{IsDeposited};
 ghost use Rattle.rank_threads.specs.Ways.{At, Way, hands_of, own_ranks};
-ghost use Rattle.seen_log.specs.Numbers.{AreApart};
+ghost use Rattle.proof_names.specs.Numbers.{AreApart};
 ghost use mathlib.Core.List.{IsPrefix};
 
 use crate::desk::{AskedRank, Desk, Done, Serving};
 use crate::route::{OwnRank, Route};
 use crate::work::{Work, WorkAnswer};
 use authority_map::Publisher;
-use board_state::BoardError;
 use export_rounds::Gate;
 use heat_ledger::Share;
-use mds_board::{Board, Entry};
+use mds_board::{Board, BoardError, Entry};
 use mds_types::Rank;
-use naming::Naming;
 use phased_board::{Known, Phase, Phased, first_refusal};
-use seen_log::{NewLog, NewNumbers};
+use proof_names::{Naming, NewLog, NewNumbers};
 use std::alloc::{AllocError, AllocFailed, Global};
 use std::marker::{Brand, Send, Sync};
 use std::sync::{Mutex, Wait};

@@ -4,7 +4,7 @@ ghost use Rattle.rank_threads.specs.Ways.{At, ByMap, HoldsAsMuch, IsByMap, IsFou
 
 use authority_map::{Found, MapReader};
 use mds_types::{Dir, Rank};
-use naming::Naming;
+use proof_names::Naming;
 
 /// Finds the rank at which a thread asks for a directory. The thread has it for itself, and uses it outside the lock.
 pub trait Route: Drop {

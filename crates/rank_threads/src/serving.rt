@@ -16,8 +16,8 @@ use authority_map::Publisher;
 use export_rounds::Gate;
 use heat_ledger::{HitError, Share};
 use mds_types::{Dir, Kind, Rank};
-use naming::Naming;
 use phased_board::Phase;
+use proof_names::Naming;
 use std::marker::{Send, Sync};
 use std::sync::Wait;
 

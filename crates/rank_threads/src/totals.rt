@@ -15,7 +15,7 @@ use authority_map::Publisher;
 use export_rounds::Gate;
 use heat_ledger::Share;
 use mds_board::Board;
-use naming::Naming;
+use proof_names::Naming;
 use std::alloc::{AllocFailed, Global};
 use std::marker::{Send, Sync};
 use std::sync::Wait;

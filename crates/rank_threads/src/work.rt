@@ -1,7 +1,7 @@
 //! Requests, their answers, and why one isn't served.
 
-use board_state::BoardError;
 use heat_ledger::HitError;
+use mds_board::BoardError;
 use mds_types::{Dir, Kind, Rank, Refusal};
 use std::error::Error;
 use std::fmt;

@@ -5,7 +5,7 @@ use export_threads::Outcome;
 use heat_ledger::Share;
 use mds_board::{Board, Shown};
 use mds_types::{Dir, Dirs, Order, Rank};
-use naming::Naming;
+use proof_names::Naming;
 use rank_threads::{Gate, Ranks, Work, WorkAnswer, serve_phase};
 use std::alloc::{AllocError, Global};
 use std::marker::{Send, Sync};

@@ -11,7 +11,7 @@ use export_threads::export_phase;
 use heat_ledger::Share;
 use mds_board::Board;
 use mds_types::{Dir, Order};
-use naming::Naming;
+use proof_names::Naming;
 use rank_threads::{Work, WorkAnswer};
 use std::alloc::{AllocError, Global};
 use std::marker::{Send, Sync};

@@ -9,7 +9,7 @@ use export_protocol::{Event, StepError};
 use export_threads::export_phase;
 use heat_ledger::Share;
 use mds_board::Board;
-use naming::Naming;
+use proof_names::Naming;
 use rank_threads::{Work, WorkAnswer};
 use std::alloc::Global;
 use std::marker::{Send, Sync};

@@ -11,7 +11,7 @@ use export_threads::{Outcome, export_phase};
 use heat_ledger::Share;
 use mds_board::Board;
 use mds_types::Dir;
-use naming::Naming;
+use proof_names::Naming;
 use rank_threads::{OpenGate, WorkAnswer};
 use std::alloc::Global;
 use std::marker::{Send, Sync};

@@ -7,7 +7,7 @@ use authority_map::Publisher;
 use export_rounds::{Outcome, Unsettled};
 use mds_board::Board;
 use mds_types::Dir;
-use naming::Naming;
+use proof_names::Naming;
 use std::alloc::Global;
 use std::marker::{Send, Sync};
 use std::process::Abort;

@@ -5,7 +5,7 @@ use export_rounds::{Gate, Unsettled};
 use heat_ledger::Share;
 use mds_board::Board;
 use mds_types::{Dir, Kind};
-use naming::Naming;
+use proof_names::Naming;
 use std::alloc::{AllocError, Global};
 use std::marker::{Send, Sync};
 use std::process::Abort;

@@ -10,7 +10,7 @@ use export_rounds::Unsettled;
 use export_threads::{OpenGate, Outcome, export_phase_from};
 use mds_board::Board;
 use mds_types::{Dir, Order};
-use naming::Naming;
+use proof_names::Naming;
 use std::alloc::{AllocError, Global};
 use std::marker::{Send, Sync};
 use std::process::Abort;

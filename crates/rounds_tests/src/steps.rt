@@ -8,7 +8,7 @@ use export_rounds::Unsettled;
 use export_threads::{Outcome, export_phase_from};
 use mds_board::Board;
 use mds_types::{Dir, Dirs, Order, Rank};
-use naming::Naming;
+use proof_names::Naming;
 use std::alloc::{AllocError, Global};
 use std::marker::{Send, Sync};
 use std::process::Abort;

@@ -1,6 +1,6 @@
 -- What changes leave of a board, and how their refusals are spelled.
 use Rattle.std.proofs.Common.{◌≡◌, ℕ, List, refl, Some, Ok, Err}
-use Rattle.board_state.specs.declared.change.Change.TheVariants.{Make}
+use Rattle.mds_board.specs.declared.change.Change.TheVariants.{Make}
 use Rattle.script_board.specs.declared.fault.Fault.{Fault}
 use Rattle.script_board.specs.Board.{BoardData}
 use Rattle.script_board.specs.Commands.{find, last_slash, make_dir, parent_path, replanned}

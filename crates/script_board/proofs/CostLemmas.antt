@@ -9,8 +9,8 @@ use Rattle.std.proofs.lemmas.Bool.{cases_eq, and_parts, ne_eqb}
 use Rattle.std.proofs.lemmas.Bool.Decides.{Decides-eqb}
 use Rattle.dirtree.specs.Tree.{is_there}
 use Rattle.dir_pins.specs.Pins.{below, is_unpinned, nearest_pin}
-use Rattle.division_cost.specs.declared.division.Part.{Part}
-use Rattle.division_cost.specs.Parts.{Marks, is_free_top, is_top, part_at, parts}
+use Rattle.tree_parts.specs.declared.division.Part.{Part}
+use Rattle.tree_parts.specs.Parts.{Marks, is_free_top, is_top, part_at, parts}
 use Rattle.script_board.specs.declared.fault.Fault.{Fault}
 use Rattle.script_board.specs.Board.{BoardData}
 use Rattle.script_board.specs.Commands.{◌>>=◌}

@@ -14,18 +14,18 @@ use Rattle.mds_types.specs.Sums.{sum_below}
 use Rattle.mds_types.proofs.SumsLemmas.{max_below-le, max_below-term, sum_below-same}
 use Rattle.dirtree.specs.Tree.{Entry, IsTree, inodes_of, parent_of}
 use Rattle.dir_pins.specs.Pins.{below, is_unpinned, unpinned}
-use Rattle.division_cost.specs.declared.division.Part.{Part}
-use Rattle.division_cost.specs.Parts.{greatest, is_free_top, is_member, is_top, members, part_at, parts, top_of}
-use Rattle.division_cost.proofs.Chains.{greatest_is}
-use Rattle.division_cost.proofs.Elements.{Contains-map, Contains-mapped, kept_below, passes_below}
-use Rattle.division_cost.proofs.Passes.{top_of-other, top_of-top}
-use Rattle.board_problem.specs.declared.plan_parts.PlanPart.{PlanPart}
-use Rattle.board_problem.specs.PlanParts.{IsTopOf, is_part_top, part_of_top, part_tops, plan_parts}
-use Rattle.board_problem.specs.ProblemRows.{problem_rows, row_of}
-use Rattle.board_problem.proofs.DirDivisions.{at_row, both_tests, listed_sum, place_row, row_inside, row_of_dir}
-use Rattle.board_problem.proofs.Places.{kept_next}
-use Rattle.board_problem.proofs.RowsSoFar.{parents_row}
-use Rattle.board_problem.proofs.TopsOfParts.{one_top_of, same_top, sum_listed}
+use Rattle.tree_parts.specs.declared.division.Part.{Part}
+use Rattle.tree_parts.specs.Parts.{greatest, is_free_top, is_member, is_top, members, part_at, parts, top_of}
+use Rattle.tree_parts.proofs.Chains.{greatest_is}
+use Rattle.tree_parts.proofs.Elements.{Contains-map, Contains-mapped, kept_below, passes_below}
+use Rattle.tree_parts.proofs.Passes.{top_of-other, top_of-top}
+use Rattle.tree_parts.specs.declared.plan_parts.PlanPart.{PlanPart}
+use Rattle.tree_parts.specs.PlanParts.{IsTopOf, is_part_top, part_of_top, part_tops, plan_parts}
+use Rattle.tree_parts.specs.ProblemRows.{problem_rows, row_of}
+use Rattle.tree_parts.proofs.DirDivisions.{at_row, both_tests, listed_sum, place_row, row_inside, row_of_dir}
+use Rattle.tree_parts.proofs.Places.{kept_next}
+use Rattle.tree_parts.proofs.RowsSoFar.{parents_row}
+use Rattle.tree_parts.proofs.TopsOfParts.{one_top_of, same_top, sum_listed}
 use Rattle.script_board.specs.PlanCost.{without_rank}
 
 -- numbers that pass two tests, by their places among those that pass the first

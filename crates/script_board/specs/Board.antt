@@ -3,7 +3,7 @@ use Rattle.std.specs.Prelude.{◌≡◌, ℕ, ◌<◌, ◌≤◌, List, [], leng
 use Rattle.heat_ledger.specs.Ledger.{ShareData, weight_of}
 use Rattle.heat_ledger.specs.Opening.{fresh_share}
 use Rattle.mds_types.specs.declared.order.Order.{Order}
-use Rattle.board_state.specs.State.{first_operations, start}
+use Rattle.mds_board.specs.State.{first_operations, start}
 use Rattle.mds_board.specs.History.{World}
 use Rattle.script_board.specs.declared.load.Load.{Load}
 

@@ -7,10 +7,10 @@ use Rattle.dirtree.specs.Path as path
 use Rattle.export_protocol.specs.declared.event.Event.TheVariants.{Stop, Restart}
 use Rattle.mds_types.specs.declared.kind.Kind.{Kind}
 use Rattle.mds_types.specs.Mask.{mask_bits}
-use Rattle.board_state.specs.declared.change.Change.{Change}
-use Rattle.board_state.specs.declared.change.Change.TheVariants.{Make, Remove, Mask, Tick, Step}
-use Rattle.board_state.specs.declared.change.Change.TheVariants as change
-use Rattle.board_state.specs.State.{refusal}
+use Rattle.mds_board.specs.declared.change.Change.{Change}
+use Rattle.mds_board.specs.declared.change.Change.TheVariants.{Make, Remove, Mask, Tick, Step}
+use Rattle.mds_board.specs.declared.change.Change.TheVariants as change
+use Rattle.mds_board.specs.State.{refusal}
 use Rattle.mds_board.specs.History.{recorded}
 use Rattle.script_board.specs.declared.fault.Fault.{Fault}
 use Rattle.script_board.specs.declared.fault.Fault.TheVariants as fault

@@ -2,8 +2,8 @@
 use Rattle.std.specs.Prelude.{◌≡◌, ℕ, true, List, [], ◌∷◌, All, Option, Some, None, Result, Ok, Err}
 use Rattle.dirtree.specs.Tree.{is_there}
 use Rattle.dir_pins.specs.Pins.{nearest_pin}
-use Rattle.division_cost.specs.declared.division.Part.{Part}
-use Rattle.division_cost.specs.Parts.{parts}
+use Rattle.tree_parts.specs.declared.division.Part.{Part}
+use Rattle.tree_parts.specs.Parts.{parts}
 use Rattle.script_board.specs.declared.fault.Fault.{Fault}
 use Rattle.script_board.specs.declared.fault.Fault.TheVariants.{Pinned}
 use Rattle.script_board.specs.Board.{BoardData}

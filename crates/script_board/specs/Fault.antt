@@ -5,9 +5,9 @@ use Rattle.dirtree.specs.declared.tree_error.TreeError.TheVariants as tree
 use Rattle.heat_ledger.specs.declared.hit_error.HitError.TheVariants as hit
 use Rattle.rank_threads.specs.declared.work.WorkError.{WorkError}
 use Rattle.rank_threads.specs.declared.work.WorkError.TheVariants as work
-use Rattle.board_state.specs.declared.board_error.BoardError.{BoardError}
-use Rattle.board_state.specs.declared.board_error.BoardError.TheVariants as board
-use Rattle.board_state.specs.Refused.{tree_refused}
+use Rattle.mds_board.specs.declared.board_error.BoardError.{BoardError}
+use Rattle.mds_board.specs.declared.board_error.BoardError.TheVariants as board
+use Rattle.mds_board.specs.Refused.{tree_refused}
 use Rattle.script_board.specs.declared.fault.Fault.{Fault}
 use Rattle.script_board.specs.declared.fault.Fault.TheVariants.{Memory, Refused}
 use Rattle.script_board.specs.declared.fault.Fault.TheVariants as fault

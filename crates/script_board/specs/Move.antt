@@ -1,7 +1,7 @@
 -- What `move` does: the directories that pins hold move, and those of the last plan.
 use Rattle.std.specs.Prelude.{◌≡◌, List, [], ◌++◌, length}
 use Rattle.mds_types.specs.declared.order.Order.{Order}
-use Rattle.board_state.specs.State.{pin_orders}
+use Rattle.mds_board.specs.State.{pin_orders}
 use Rattle.export_rounds.specs.Adding.{GoesOnBy}
 use Rattle.export_rounds.specs.Further.{IsFurther}
 use Rattle.export_rounds.specs.Outcomes.{AreAll, AreOutcomes}

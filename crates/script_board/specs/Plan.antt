@@ -3,8 +3,8 @@ use Rattle.std.specs.Prelude.{◌≡◌, Result}
 use Rattle.mds_types.specs.declared.plan.Plan.{Plan}
 use Rattle.mds_types.specs.Certificate.{IsBest, IsCertified}
 use Rattle.plan_checker.specs.Present.{KeepsBest}
-use Rattle.board_state.specs.declared.change.Change.TheVariants.{Open, Adopt}
-use Rattle.board_state.specs.State.{balance_refusal, dirs_of, plan_orders, problem_of}
+use Rattle.mds_board.specs.declared.change.Change.TheVariants.{Open, Adopt}
+use Rattle.mds_board.specs.State.{balance_refusal, dirs_of, plan_orders, problem_of}
 use Rattle.mds_board.specs.History.{recorded}
 use Rattle.script_board.specs.declared.fault.Fault.{Fault}
 use Rattle.script_board.specs.Board.{BoardData}

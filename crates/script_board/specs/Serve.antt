@@ -7,7 +7,7 @@ use Rattle.authority_map.specs.Operations.{rank_after}
 use Rattle.dirtree.specs.Tree as tree
 use Rattle.heat_ledger.specs.Ledger.{pending_of}
 use Rattle.heat_ledger.specs.Rows.{at}
-use Rattle.board_state.specs.declared.board_error.BoardError.{BoardError}
+use Rattle.mds_board.specs.declared.board_error.BoardError.{BoardError}
 use Rattle.mds_board.specs.History.{World}
 use Rattle.rank_threads.specs.declared.work.Work.{Work}
 use Rattle.rank_threads.specs.declared.work.WorkAnswer.{WorkAnswer}

@@ -9,11 +9,11 @@ use crate::fault::Fault;
 use crate::load::Load;
 use crate::script_board::ScriptBoard;
 use authority_map::Publisher;
-use board_state::Change;
 use dirtree::TreeError;
 use export_protocol::Event;
+use mds_board::Change;
 use mds_types::{Dir, Kind, Rank, RankSet};
-use naming::Naming;
+use proof_names::Naming;
 use std::alloc::Global;
 
 impl<J: Naming, M: Publisher<J>> ScriptBoard<J, M> {

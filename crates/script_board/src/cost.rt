@@ -1,16 +1,16 @@
 //! The command `cost`: the heat and the inodes of each part of a division.
 ghost use Rattle.std.specs.Prelude.{◌≡◌, ◌<◌, ◌≤◌, ℕ, List, IfErr, IfOk, IsOk, OnOk, Ok, Err, length, map};
-ghost use Rattle.division_cost.specs.Parts.{Marks};
+ghost use Rattle.tree_parts.specs.Parts.{Marks};
 ghost use Rattle.script_board.specs.Cost.{AreThere, cost, top, tops};
 ghost use Rattle.script_board.specs.Fault.{IsDue};
 
 use crate::fault::Fault;
 use crate::script_board::ScriptBoard;
 use authority_map::Publisher;
-use division_cost::{Part, parts};
 use mds_types::Dir;
-use naming::Naming;
+use proof_names::Naming;
 use std::alloc::Global;
+use tree_parts::{Part, parts};
 
 impl<J: Naming, M: Publisher<J>> ScriptBoard<J, M> {
     /// The parts of the division at these tops. The root is a top too.

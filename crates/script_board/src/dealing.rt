@@ -11,7 +11,7 @@ use crate::script_board::ScriptBoard;
 use authority_map::Publisher;
 use mds_board::Board;
 use mds_types::{Dir, Rank};
-use naming::Naming;
+use proof_names::Naming;
 use rank_threads::{Work, WorkAnswer};
 use std::alloc::{AllocError, Global};
 

@@ -3,9 +3,9 @@ ghost use Rattle.std.specs.Prelude.{◌≡◌};
 ghost use Rattle.script_board.specs.declared.fault.Fault.TheVariants.{Memory};
 ghost use Rattle.script_board.specs.Fault.{board_fault, tree_fault, work_fault};
 
-use board_state::BoardError;
 use dirtree::TreeError;
 use heat_ledger::HitError;
+use mds_board::BoardError;
 use rank_threads::WorkError;
 use std::alloc::{AllocError, AllocFailed};
 

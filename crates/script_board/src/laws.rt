@@ -6,9 +6,9 @@ ghost use Rattle.mds_types.specs.Division.{greatest_heat};
 ghost use Rattle.mds_types.specs.Problem.{IsForest};
 ghost use Rattle.dirtree.specs.Tree.{Entry, IsTree};
 ghost use Rattle.dir_pins.specs.Pins.{unpinned};
-ghost use Rattle.division_cost.specs.Parts.{greatest, parts};
-ghost use Rattle.board_problem.specs.PlanParts.{part_tops, plan_parts};
-ghost use Rattle.board_problem.specs.ProblemRows.{problem_rows};
+ghost use Rattle.tree_parts.specs.Parts.{greatest, parts};
+ghost use Rattle.tree_parts.specs.PlanParts.{part_tops, plan_parts};
+ghost use Rattle.tree_parts.specs.ProblemRows.{problem_rows};
 ghost use Rattle.script_board.specs.PlanCost.{without_rank};
 
 /// The division below the tops of a plan's parts has the plan's parts: the same tops, heats and inodes, and no other.

@@ -6,7 +6,7 @@ use crate::script_board::ScriptBoard;
 use authority_map::Publisher;
 use export_threads::{OpenGate, Outcome, export_phase_from};
 use mds_types::Order;
-use naming::Naming;
+use proof_names::Naming;
 use std::alloc::{AllocError, Global};
 use std::marker::{Send, Sync};
 use std::sync::Wait;

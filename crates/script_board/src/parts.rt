@@ -2,8 +2,8 @@
 ghost use Rattle.std.specs.Prelude.{◌≡◌, []};
 
 use authority_map::{MapReader, Publisher};
-use board_state::BoardParts;
-use naming::Naming;
+use mds_board::BoardParts;
+use proof_names::Naming;
 
 /// What was opened for a script's board before it is made: the board's ledger and map, and a reader of the map. Since
 /// the writer of a map can't be dropped, neither can this.

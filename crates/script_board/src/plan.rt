@@ -8,10 +8,10 @@ ghost use Rattle.script_board.specs.Plan.{IsPlanned, plan_due};
 use crate::fault::Fault;
 use crate::script_board::ScriptBoard;
 use authority_map::Publisher;
-use board_state::Solver;
+use mds_board::Solver;
 use mds_types::{Plan, Problem};
-use naming::Naming;
 use planner::solve;
+use proof_names::Naming;
 use std::alloc::{AllocError, Global};
 use std::thread::Threads;
 

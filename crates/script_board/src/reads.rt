@@ -6,13 +6,13 @@ ghost use Rattle.dirtree.specs.Path.{path_of};
 ghost use Rattle.dirtree.specs.Tree.{is_there};
 ghost use Rattle.dir_pins.specs.Pins.{nearest_pin};
 ghost use Rattle.heat_ledger.specs.Rows.{at, entry};
-ghost use Rattle.board_state.specs.State.{usable};
+ghost use Rattle.mds_board.specs.State.{usable};
 
 use crate::script_board::ScriptBoard;
 use authority_map::Publisher;
 use mds_board::Board;
 use mds_types::{Dir, Kind, Rank, RankSet};
-use naming::Naming;
+use proof_names::Naming;
 use std::alloc::{AllocError, Global};
 
 impl<J: Naming, M: Publisher<J>> ScriptBoard<J, M> {

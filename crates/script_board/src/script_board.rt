@@ -10,7 +10,7 @@ use export_threads::Unsettled;
 use heat_ledger::Share;
 use mds_board::Board;
 use mds_types::Order;
-use naming::Naming;
+use proof_names::Naming;
 use std::alloc::Global;
 use std::marker::Model;
 

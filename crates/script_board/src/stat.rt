@@ -6,7 +6,7 @@ ghost use Rattle.script_board.specs.Stat.{directories};
 use crate::script_board::ScriptBoard;
 use authority_map::Publisher;
 use mds_types::Dir;
-use naming::Naming;
+use proof_names::Naming;
 use std::alloc::{AllocError, Global};
 
 impl<J: Naming, M: Publisher<J>> ScriptBoard<J, M> {

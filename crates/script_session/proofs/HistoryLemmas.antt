@@ -2,10 +2,10 @@
 use Rattle.std.proofs.Common.{◌≡◌, ◌==◌, ℕ, Bool, true, false, cond, List, [], ◌∷◌, ◌++◌, length, drop, refl, sym, ap, subst, ◌∙◌, append_assoc, append-nil, inl, inr, Option, Some, None, Result, Ok, Err}
 use Rattle.std.proofs.lemmas.List.{take-append-drop}
 use Rattle.std.specs.Prelude.{option_map}
-use Rattle.board_state.specs.declared.board_error.BoardError.{BoardError}
-use Rattle.board_state.specs.declared.change.Change.{Change}
-use Rattle.board_state.specs.declared.change.Change.TheVariants as change
-use Rattle.board_state.specs.State.{refusal}
+use Rattle.mds_board.specs.declared.board_error.BoardError.{BoardError}
+use Rattle.mds_board.specs.declared.change.Change.{Change}
+use Rattle.mds_board.specs.declared.change.Change.TheVariants as change
+use Rattle.mds_board.specs.State.{refusal}
 use Rattle.mds_board.specs.declared.entry.Entry.{Entry}
 use Rattle.mds_board.specs.History.{World, entry_of, recorded}
 use Rattle.mds_types.specs.Mask.{mask_bits}

@@ -10,11 +10,11 @@ use Rattle.mds_types.specs.declared.problem.ProblemRow.{ProblemRow}
 use Rattle.mds_types.specs.Certificate.{plan_label}
 use Rattle.dirtree.specs.Tree.{Entry, is_there}
 use Rattle.dir_pins.specs.Pins.{below, is_unpinned, nearest_pin, unpinned}
-use Rattle.board_problem.specs.declared.plan_parts.PlanPart.{PlanPart}
-use Rattle.board_problem.specs.PlanParts.{is_part_top, part_of_top, plan_parts}
-use Rattle.board_problem.specs.ProblemRows.{row_of}
-use Rattle.board_state.specs.declared.change.Change.TheVariants.{Open, Adopt}
-use Rattle.board_state.specs.State.{Force, State, authorities, dirs_of, happens, next, problem_of, start}
+use Rattle.tree_parts.specs.declared.plan_parts.PlanPart.{PlanPart}
+use Rattle.tree_parts.specs.PlanParts.{is_part_top, part_of_top, plan_parts}
+use Rattle.tree_parts.specs.ProblemRows.{row_of}
+use Rattle.mds_board.specs.declared.change.Change.TheVariants.{Open, Adopt}
+use Rattle.mds_board.specs.State.{Force, State, authorities, dirs_of, happens, next, problem_of, start}
 use Rattle.mds_board.specs.declared.entry.Entry.{Entry as Kept}
 use Rattle.mds_board.specs.History.{IsReplay, World, entry_of, recorded}
 use Rattle.mds_board.specs.InForce.{adopted, plan_in_force}

@@ -4,12 +4,12 @@ use Rattle.std.specs.List.{list_all}
 use Rattle.std.specs.Prelude.{option_map, MatchBool}
 use Rattle.std.proofs.lemmas.Bool.{and_parts}
 use Rattle.authority_map.specs.Operations.{Operation}
-use Rattle.board_state.specs.declared.board_error.BoardError.{BoardError}
-use Rattle.board_state.specs.declared.change.Change.{Change}
-use Rattle.board_state.specs.declared.change.Change.TheVariants as change
-use Rattle.board_state.specs.State.{refusal}
-use Rattle.division_cost.specs.declared.division.Part.{Part}
-use Rattle.division_cost.specs.Parts.{parts}
+use Rattle.mds_board.specs.declared.board_error.BoardError.{BoardError}
+use Rattle.mds_board.specs.declared.change.Change.{Change}
+use Rattle.mds_board.specs.declared.change.Change.TheVariants as change
+use Rattle.mds_board.specs.State.{refusal}
+use Rattle.tree_parts.specs.declared.division.Part.{Part}
+use Rattle.tree_parts.specs.Parts.{parts}
 use Rattle.mds_types.specs.Mask.{mask_bits}
 use Rattle.script_engine.specs.Answers.{Answer, Run, Takes, played, text_of}
 use Rattle.script_commands.specs.Commands as line

@@ -1,8 +1,8 @@
 -- What the command `cost` prints.
 use Rattle.std.specs.Prelude.{ℕ, List, [], ◌∷◌, ◌++◌, length, map, codes, decimal}
 use Rattle.dirtree.specs.Path.{path_of}
-use Rattle.division_cost.specs.declared.division.Part.{Part}
-use Rattle.division_cost.specs.Parts.{greatest}
+use Rattle.tree_parts.specs.declared.division.Part.{Part}
+use Rattle.tree_parts.specs.Parts.{greatest}
 use Rattle.script_board.specs.Board.{BoardData}
 
 abbrev pub cost_line : List Part → List ℕ

@@ -1,6 +1,6 @@
 -- What commands mean: what they do to a board, and why a board refuses them.
 use Rattle.std.specs.Prelude.{◌≡◌, ℕ, Bool, true, false, List, [], ◌⊎◌, Option, Some, None, Result, Ok, Err}
-use Rattle.division_cost.specs.declared.division.Part.{Part}
+use Rattle.tree_parts.specs.declared.division.Part.{Part}
 use Rattle.mds_types.specs.declared.order.Order.{Order}
 use Rattle.mds_types.specs.declared.plan.Plan.{Plan}
 use Rattle.export_rounds.specs.declared.outcome.Outcome.{Outcome}

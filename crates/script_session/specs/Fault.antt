@@ -3,7 +3,7 @@ use Rattle.std.specs.Prelude.{ℕ, List, ◌++◌, codes}
 use Rattle.mds_types.specs.declared.refusal.Refusal.{Refusal}
 use Rattle.mds_types.specs.declared.refusal.Refusal.TheVariants as refusal
 use Rattle.mds_types.specs.Refusal as refusal_words
-use Rattle.board_state.specs.Refused.{refusal_of}
+use Rattle.mds_board.specs.Refused.{refusal_of}
 use Rattle.script_board.specs.declared.fault.Fault.{Fault}
 use Rattle.script_board.specs.declared.fault.Fault.TheVariants.{Syntax, NoRanks, RanksAgain, Memory, Mask}
 use Rattle.script_board.specs.declared.fault.Fault.TheVariants.{Refused, ShareFull, NoThread, Pinned}

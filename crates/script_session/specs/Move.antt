@@ -6,7 +6,7 @@ use Rattle.dirtree.specs.Tree.{Entry, entry_at, is_there}
 use Rattle.mds_types.specs.declared.order.Order.{Order}
 use Rattle.mds_types.specs.Refusal.{words}
 use Rattle.mds_types.specs.declared.refusal.Refusal.TheVariants as refusal
-use Rattle.board_state.specs.Refused.{refusal_of}
+use Rattle.mds_board.specs.Refused.{refusal_of}
 use Rattle.export_rounds.specs.declared.outcome.Outcome.{Outcome}
 use Rattle.export_rounds.specs.declared.outcome.Outcome.TheVariants.{Done, Aborted, Open, Refused, NoThread}
 use Rattle.script_board.specs.Board.{BoardData}

@@ -4,9 +4,9 @@ use Rattle.mds_types.specs.declared.cut_proof.CutProof.{CutProof}
 use Rattle.mds_types.specs.declared.cut_proof.CutProof.TheVariants.{Zero, Heavy, Table}
 use Rattle.mds_types.specs.declared.plan.Plan.{Plan}
 use Rattle.dirtree.specs.Path.{path_of}
-use Rattle.board_problem.specs.declared.plan_parts.PlanPart.{PlanPart}
-use Rattle.board_problem.specs.PlanParts.{plan_parts}
-use Rattle.board_state.specs.State.{Force}
+use Rattle.tree_parts.specs.declared.plan_parts.PlanPart.{PlanPart}
+use Rattle.tree_parts.specs.PlanParts.{plan_parts}
+use Rattle.mds_board.specs.State.{Force}
 use Rattle.mds_board.specs.InForce.{plan_in_force}
 use Rattle.script_board.specs.Board.{BoardData}
 

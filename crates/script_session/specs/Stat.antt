@@ -8,7 +8,7 @@ use Rattle.mds_types.specs.declared.kind.Kind.TheVariants.{Read, Write}
 use Rattle.mds_types.specs.RankSet.{rank_count}
 use Rattle.dirtree.specs.Path.{path_of}
 use Rattle.dir_pins.specs.Pins.{nearest_pin}
-use Rattle.board_state.specs.State.{usable}
+use Rattle.mds_board.specs.State.{usable}
 use Rattle.script_board.specs.Board.{BoardData}
 use Rattle.script_board.specs.Stat.{directories}
 

@@ -8,7 +8,7 @@ ghost use Rattle.script_session.specs.Printed.{only_lines};
 use crate::done::Done;
 use crate::reply::CommandReply;
 use authority_map::Publisher;
-use naming::Naming;
+use proof_names::Naming;
 use script_board::{Fault, ScriptBoard};
 use script_commands::Command;
 use std::alloc::Global;

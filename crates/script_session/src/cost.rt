@@ -4,10 +4,10 @@ ghost use Rattle.dirtree.specs.Tree.{is_there};
 ghost use Rattle.script_session.specs.Cost.{cost_line, part_line};
 
 use authority_map::Publisher;
-use division_cost::{Part, greatest_heat};
-use naming::Naming;
+use proof_names::Naming;
 use script_board::ScriptBoard;
 use std::alloc::{AllocError, Global};
+use tree_parts::{Part, greatest_heat};
 
 pub(crate) fn cost_line(parts: &[Part], line: &mut String) -> Result<(), AllocError>
     ensures { OnOk result (string_bytes line.new ≡ cost_line parts.now) }

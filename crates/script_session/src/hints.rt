@@ -4,7 +4,7 @@ ghost use Rattle.script_session.specs.Session.{answers};
 
 use crate::session::Session;
 use authority_map::Publisher;
-use naming::Naming;
+use proof_names::Naming;
 use script_commands::{LineFault, explain};
 use script_engine::{Interpreter, WriteFailed};
 use std::alloc::Global;

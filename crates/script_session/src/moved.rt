@@ -7,7 +7,7 @@ use authority_map::Publisher;
 use dirtree::Tree;
 use export_rounds::Outcome;
 use mds_types::{Dir, Order, Rank, Refusal};
-use naming::Naming;
+use proof_names::Naming;
 use script_board::ScriptBoard;
 use std::alloc::{AllocError, Global};
 

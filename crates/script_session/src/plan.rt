@@ -8,11 +8,12 @@ ghost use Rattle.script_board.specs.Plan.{IsPlanned};
 ghost use Rattle.script_session.specs.Plan.{first_line, parts_in_force, plan_line, plan_part_line, proof_word};
 
 use authority_map::Publisher;
-use board_problem::{PlanPart, parts};
 use mds_types::{CutProof, Plan};
-use naming::Naming;
+use proof_names::Naming;
 use script_board::ScriptBoard;
 use std::alloc::{AllocError, Global};
+use tree_parts::PlanPart;
+use tree_parts::plan_parts::parts;
 
 pub(crate) fn plan_part_line<J: Naming, M: Publisher<J>>(
     alloc: Global,

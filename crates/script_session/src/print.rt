@@ -16,7 +16,7 @@ use crate::plan::{plan_line, plan_part_line};
 use crate::reply::CommandReply;
 use crate::stat::{cluster_line, dir_line};
 use authority_map::Publisher;
-use naming::Naming;
+use proof_names::Naming;
 use script_board::ScriptBoard;
 use script_engine::{WriteFailed, write_whole};
 use std::alloc::{AllocError, Global};

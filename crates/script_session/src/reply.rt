@@ -3,10 +3,9 @@ ghost use Rattle.std.specs.Prelude.{◌≡◌, length};
 ghost use Rattle.script_board.specs.Board.{BoardData};
 ghost use Rattle.script_session.specs.Reply.{IsPrintable, reply_lines};
 
-use board_problem::PlanPart;
-use division_cost::Part;
 use export_rounds::Outcome;
 use mds_types::{Dir, Order};
+use tree_parts::{Part, PlanPart};
 
 /// What a command prints, from which its lines are made one by one as they are written.
 #[derive(Drop)]

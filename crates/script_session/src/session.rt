@@ -27,7 +27,7 @@ use crate::reply::CommandReply;
 use crate::report::{write_fault, write_refused};
 use authority_map::Publisher;
 use board_certificates::{Unwritten, write_certificates};
-use naming::Naming;
+use proof_names::Naming;
 use script_board::{Fault, Parts, ScriptBoard};
 use script_commands::{Asked, Command, RankCount, read_line};
 use script_engine::{Interpreter, WriteFailed};

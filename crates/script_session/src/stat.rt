@@ -7,7 +7,7 @@ ghost use Rattle.script_session.specs.Stat.{cluster_line, dir_line, rank_text};
 use authority_map::Publisher;
 use itoa::Buffer;
 use mds_types::{Dir, Kind, Rank};
-use naming::Naming;
+use proof_names::Naming;
 use script_board::ScriptBoard;
 use std::alloc::{AllocError, Global};
 

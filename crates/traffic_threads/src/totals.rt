@@ -15,7 +15,7 @@ use authority_map::{MapReader, Publisher};
 use export_rounds::{Gate, Unsettled};
 use heat_ledger::Share;
 use mds_board::Board;
-use naming::Naming;
+use proof_names::Naming;
 use rank_threads::totals::audited;
 use std::alloc::{AllocFailed, Global};
 use std::marker::{Send, Sync};

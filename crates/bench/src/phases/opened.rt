@@ -3,11 +3,10 @@ ghost use Rattle.std.specs.Prelude.{◌≡◌, ◌≤◌};
 
 use crate::phases::timing::{Phase, Seats, time_phase};
 use authority_map::{MapReader, MapWriter, NewMap, Publisher};
-use board_state::BoardParts;
 use heat_ledger::NewBook;
-use mds_board::Board;
+use mds_board::{Board, BoardParts};
 use mds_types::limits::DIR_LIMIT;
-use naming::Naming;
+use proof_names::Naming;
 use std::alloc::Global;
 use std::marker::{Brand, Send, Sync};
 use std::sync::Wait;

@@ -13,7 +13,7 @@ use heat_ledger::Share;
 use mds_board::Board;
 use mds_types::limits::DIR_LIMIT;
 use mds_types::{Dir, Kind, Order};
-use naming::Naming;
+use proof_names::Naming;
 use rank_threads::{OpenGate, serve_phase};
 use std::alloc::Global;
 use std::marker::{Send, Sync};

@@ -3,7 +3,7 @@ ghost use Rattle.std.specs.Prelude.{◌≡◌, ◌<◌};
 
 use authority_map::{Found, MapError, MapReader, Publisher};
 use mds_types::{Dir, Rank};
-use naming::Naming;
+use proof_names::Naming;
 use std::alloc::Global;
 
 /// The rank of a number, and rank 0 where that is none.

@@ -8,7 +8,7 @@ use crate::map::watched::never_go_back;
 use crate::same::Sure;
 use authority_map::{Found, MapError, MapReader, MapWriter, NewMap, Publisher};
 use mds_types::Dir;
-use naming::Naming;
+use proof_names::Naming;
 use std::alloc::Global;
 use std::marker::Brand;
 use std::process::Abort;

@@ -5,7 +5,7 @@ use crate::map::maps::{clear, give, hear, look, rank, show};
 use crate::map::opened::{Trial, try_trial};
 use authority_map::{Found, MapError, MapReader, Publisher};
 use mds_types::{Dir, Rank};
-use naming::Naming;
+use proof_names::Naming;
 use std::alloc::Global;
 
 /// Rank 0 is published, rank 1 at first not; the reader learns of it; the directory loses its rank. It says whether the

@@ -5,7 +5,7 @@ use crate::map::maps::{give, hear, look, rank, show};
 use crate::map::opened::{Trial, try_trial};
 use authority_map::{Found, MapError, MapReader, Publisher};
 use mds_types::Dir;
-use naming::Naming;
+use proof_names::Naming;
 use std::alloc::Global;
 use std::thread::{Threads, join};
 

@@ -5,12 +5,11 @@ use crate::given::rank;
 use crate::same::{Sure, same};
 use arrayvec::ArrayVec;
 use authority_map::Publisher;
-use board_state::BoardError;
 use export_protocol::{Event, Reply};
 use heat_ledger::Share;
-use mds_board::Board;
+use mds_board::{Board, BoardError};
 use mds_types::{CutProof, Dir, DualProof, Kind, Order, Plan, RankSet};
-use naming::Naming;
+use proof_names::Naming;
 use std::alloc::{AllocError, Global};
 use std::process::Abort;
 

@@ -1,4 +1,4 @@
-use Rattle.naming.specs.Names.{no_table}
+use Rattle.proof_names.specs.Names.{no_table}
 use Rattle.bench.proofs.map.run.Given as goal
 
 abbrev pub ghosts-time_map : goal.ghosts-time_map

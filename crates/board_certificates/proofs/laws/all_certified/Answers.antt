@@ -1,6 +1,6 @@
 use Rattle.board_certificates.proofs.BestLemmas.{all_best}
 use Rattle.board_certificates.proofs.laws.all_certified.Goals as goal
-use Rattle.board_state.specs.State.{start}
+use Rattle.mds_board.specs.State.{start}
 use Rattle.std.proofs.Common.{None}
 
 pub returns : goal.returns

@@ -2,7 +2,7 @@ use Rattle.std.proofs.Common.{◌∙◌, List, ℕ, OnErr, OnOk, ap, sym, subst}
 use Rattle.std.specs.Io.KnownBytes.{Appends}
 use Rattle.std.specs.Option.{option_map}
 use Rattle.board_certificates.specs.Posed.{IsSized, posed_of}
-use Rattle.board_state.specs.declared.change.Change.TheVariants.{Adopt}
+use Rattle.mds_board.specs.declared.change.Change.TheVariants.{Adopt}
 use Rattle.script_engine.specs.Known.{AppendsFront}
 use Rattle.board_certificates.proofs.WriteLemmas.{one}
 use Rattle.board_certificates.proofs.write.write_adopted.Goals as goal

@@ -6,7 +6,7 @@ use Rattle.board_certificates.proofs.WriteLemmas.{all_writable, allowed, at_fron
 use Rattle.board_certificates.proofs.write.write_history.Goals as goal
 use Rattle.board_certificates.specs.Certificates.{PosedData, certified_by}
 use Rattle.board_certificates.specs.Posed.{IsSized, posed_of}
-use Rattle.board_state.specs.State.{start}
+use Rattle.mds_board.specs.State.{start}
 use Rattle.mds_board.specs.Stored.{shown_entry}
 use Rattle.plan_text.specs.Text.{texts}
 use Rattle.plan_text.specs.Writable.{IsWritable}

@@ -4,7 +4,7 @@ use Rattle.board_certificates.specs.Certificates.{certificates}
 use Rattle.board_certificates.specs.Posed.{posed_of}
 use Rattle.board_certificates.proofs.WriteLemmas.{IsAt}
 use Rattle.board_certificates.proofs.write.write_history.Given as goal
-use Rattle.board_state.specs.State.{start}
+use Rattle.mds_board.specs.State.{start}
 use Rattle.plan_text.specs.Text.{texts}
 
 -- what was written, and what is left to write

@@ -1,4 +1,4 @@
-use Rattle.naming.specs.Names.{no_log}
+use Rattle.proof_names.specs.Names.{no_log}
 use Rattle.board_tests.proofs.shares.a_share_moves_through_a_thread.Given as goal
 
 -- the ledger's name is that of what was opened for it

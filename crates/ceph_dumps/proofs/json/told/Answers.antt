@@ -1,5 +1,5 @@
 use Rattle.std.proofs.Common.{◌≡◌, ◌∙◌, ℕ, List, ap, arith}
-use Rattle.json_text.specs.KeyPath.{byte_of, column_of, key_path, line_begin}
+use Rattle.ceph_dumps.specs.KeyPath.{byte_of, column_of, key_path, line_begin}
 use Rattle.ceph_dumps.proofs.json.told.Goals as goal
 
 pub returns : goal.returns

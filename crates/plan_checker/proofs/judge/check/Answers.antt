@@ -5,7 +5,7 @@ use Rattle.mds_types.specs.Certificate.{IsCutCertified, AreRanks, plan_rank, pla
 use Rattle.mds_types.specs.Problem.{IsProblem}
 use Rattle.mds_types.specs.RankSet.{rank_count}
 use Rattle.mds_types.proofs.CertificateLemmas.{best, IsCutCertified-of}
-use Rattle.cost_table.specs.Costs.{AreCosts}
+use Rattle.plan_checker.specs.Costs.{AreCosts}
 use Rattle.plan_checker.proofs.PlanLemmas.{certified_by_placing}
 use Rattle.plan_checker.proofs.judge.check.Goals as goal
 

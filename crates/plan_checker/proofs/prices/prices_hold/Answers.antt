@@ -4,8 +4,8 @@ use Rattle.std.proofs.lemmas.Int.{to_z-of_z}
 use Rattle.mds_types.specs.RankSet.{has_rank, rank_count}
 use Rattle.mds_types.specs.Certificate.{part_price_at, rank_price_at}
 use Rattle.plan_checker.specs.Prices.{RankPriceHolds, dual_of}
-use Rattle.cost_table.specs.Costs.{cell_at}
-use Rattle.cost_table.proofs.PlaceLemmas.{place_inside}
+use Rattle.plan_checker.specs.Costs.{cell_at}
+use Rattle.plan_checker.proofs.PlaceLemmas.{place_inside}
 use Rattle.plan_checker.proofs.PricesLemmas.{ArePrices-from_ranks, ranks_from_ArePrices, column_is}
 use Rattle.mds_types.proofs.RankSetLemmas.{count_below_more}
 use Rattle.plan_checker.proofs.prices.prices_hold.Goals as goal

@@ -2,7 +2,7 @@ use Rattle.std.proofs.Common.{◌≡◌, ◌<◌, ℕ, true, length, slice_index
 use Rattle.mds_types.specs.Certificate.{part_price_at, rank_price_at}
 use Rattle.mds_types.specs.RankSet.{has_rank}
 use Rattle.mds_types.specs.Sums.{count_below}
-use Rattle.cost_table.specs.Costs.{cell_at}
+use Rattle.plan_checker.specs.Costs.{cell_at}
 use Rattle.plan_checker.specs.Prices.{RankPriceHolds, dual_of}
 use Rattle.plan_checker.proofs.prices.prices_hold.Given as goal
 

@@ -2,7 +2,7 @@ use Rattle.std.proofs.Common.{◌≡◌, ◌∙◌, ℕ, pos, ◌+ℤ◌, ◌≤
 use Rattle.std.proofs.lemmas.Bool.{eq-eqb}
 use Rattle.std.proofs.lemmas.Int.{to_z-of_z}
 use Rattle.std.proofs.lemmas.List.{get_or_default}
-use Rattle.cost_table.specs.Costs.{cell_at_place}
+use Rattle.plan_checker.specs.Costs.{cell_at_place}
 use Rattle.plan_checker.proofs.prices.rank_price_holds.Goals as goal
 
 pub loop-p-preserved : goal.loop-p-preserved

@@ -1,5 +1,5 @@
 use Rattle.std.proofs.Common.{◌≡◌, ◌<◌, ℕ, pos, ◌+ℤ◌, ◌≤ℤ◌, slice_index, slice_index_or}
-use Rattle.cost_table.specs.Costs.{cell_at_place}
+use Rattle.plan_checker.specs.Costs.{cell_at_place}
 use Rattle.plan_checker.proofs.prices.rank_price_holds.Given as goal
 
 abbrev pub invariant-loop-p : goal.invariant-loop-p

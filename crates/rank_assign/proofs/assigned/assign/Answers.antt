@@ -1,6 +1,6 @@
 use Rattle.std.proofs.Common.{◌≡◌, length, slice_index, arith, rules}
 use Rattle.mds_types.specs.RankSet.{rank_count}
-use Rattle.cost_table.specs.Costs.{cell_at_place, chosen_cost}
+use Rattle.plan_checker.specs.Costs.{cell_at_place, chosen_cost}
 use Rattle.rank_assign.proofs.AssignedLemmas.{are_ranks, are_prices, least_cost}
 use Rattle.rank_assign.proofs.assigned.assign.Goals as goal
 

@@ -2,8 +2,8 @@ use Rattle.std.proofs.Common.{◌≡◌, ◌∙◌, ◌+◌, ap, sym, ℕ, true,
 use Rattle.std.proofs.lemmas.Bool.{false≢true}
 use Rattle.mds_types.specs.RankSet.{has_rank}
 use Rattle.mds_types.proofs.RankSetLemmas.{count_below_more}
-use Rattle.cost_table.specs.Costs.{rank_place}
-use Rattle.cost_table.proofs.PlaceLemmas.{place_inside, place_same, rank_count-le}
+use Rattle.plan_checker.specs.Costs.{rank_place}
+use Rattle.plan_checker.proofs.PlaceLemmas.{place_inside, place_same, rank_count-le}
 use Rattle.rank_assign.proofs.assigned.give_ranks.Goals as goal
 use Rattle.rank_assign.proofs.assigned.give_ranks.Goals.{then-has, else-has}
 

@@ -1,6 +1,6 @@
 use Rattle.std.proofs.Common.{◌≡◌, ◌+◌, ◌<◌, ℕ, true, slice_index}
 use Rattle.mds_types.specs.RankSet.{has_rank}
-use Rattle.cost_table.specs.Costs.{rank_place}
+use Rattle.plan_checker.specs.Costs.{rank_place}
 use Rattle.rank_assign.proofs.assigned.give_ranks.Given as goal
 
 abbrev pub invariant-loop-number : goal.invariant-loop-number

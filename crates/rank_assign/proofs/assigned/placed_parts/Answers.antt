@@ -1,7 +1,7 @@
 use Rattle.std.proofs.Common.{take, drop, ◌++◌, ◌≡◌, ◌*◌, ℕ, List, length, arith, rules}
 use Rattle.mds_types.specs.RankSet.{rank_count}
-use Rattle.cost_table.proofs.PlaceLemmas.{rank_count-le}
-use Rattle.cost_table.proofs.WrittenLemmas.{all_written}
+use Rattle.plan_checker.proofs.PlaceLemmas.{rank_count-le}
+use Rattle.plan_checker.proofs.WrittenLemmas.{all_written}
 use Rattle.rank_assign.proofs.AssignedLemmas.{cell_small}
 use Rattle.rank_assign.proofs.assigned.placed_parts.Goals as goal
 

@@ -1,5 +1,5 @@
 use Rattle.std.proofs.Common.{◌≡◌, length, take, drop, ◌++◌, rules}
-use Rattle.cost_table.proofs.WrittenLemmas.{all_written}
+use Rattle.plan_checker.proofs.WrittenLemmas.{all_written}
 use Rattle.rank_assign.proofs.assigned.ranks_of.Goals as goal
 
 pub returns-clause-ranks : goal.returns-clause-ranks

@@ -1,5 +1,5 @@
 use Rattle.std.proofs.Common.{◌∙◌, ℕ, length, slice_index, slice_set, arith, get_or-set_other, get_or-set_same}
-use Rattle.cost_table.specs.Costs.{cell_at_place}
+use Rattle.plan_checker.specs.Costs.{cell_at_place}
 use Rattle.rank_assign.specs.Ways.{near_at, via_at, turn_at}
 use Rattle.rank_assign.proofs.RaiseLemmas.{AreRaised, reached_paths, matched}
 use Rattle.rank_assign.proofs.hungarian.place_part.Goals as goal

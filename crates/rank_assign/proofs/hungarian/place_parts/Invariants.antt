@@ -1,5 +1,5 @@
 use Rattle.std.proofs.Common.{length, slice_index}
-use Rattle.cost_table.specs.Costs.{cell_at_place}
+use Rattle.plan_checker.specs.Costs.{cell_at_place}
 use Rattle.rank_assign.specs.Matching.{IsMatching}
 use Rattle.rank_assign.proofs.hungarian.place_parts.Given as goal
 

@@ -1,6 +1,6 @@
 use Rattle.std.proofs.Common.{slice_index, arith, rules}
-use Rattle.cost_table.proofs.BetweenLemmas.{costs_from_sums, part_total_few}
-use Rattle.cost_table.proofs.PlaceLemmas.{rank_count-le}
+use Rattle.plan_checker.proofs.BetweenLemmas.{costs_from_sums, part_total_few}
+use Rattle.plan_checker.proofs.PlaceLemmas.{rank_count-le}
 use Rattle.rank_assign.proofs.moved_inodes.costs_by.Goals as goal
 
 pub invariant_of-sums_by : goal.invariant_of-sums_by

@@ -1,5 +1,5 @@
 use Rattle.std.proofs.Common.{arith}
-use Rattle.cost_table.proofs.PlaceLemmas.{rank_count-le}
+use Rattle.plan_checker.proofs.PlaceLemmas.{rank_count-le}
 use Rattle.rank_assign.proofs.moved_inodes.sums.Goals as goal
 
 pub sums-requires-clause-parts : goal.sums-requires-clause-parts

@@ -1,5 +1,5 @@
 use Rattle.std.proofs.Common.{◌≡◌, ◌+◌, ◌-◌, ℕ, length, slice_index, arith, subst}
-use Rattle.cost_table.specs.Costs.{cell_at_place}
+use Rattle.plan_checker.specs.Costs.{cell_at_place}
 use Rattle.rank_assign.specs.Ways.{near_at, via_at, turn_at, IsReaching}
 use Rattle.rank_assign.proofs.ReachLemmas.{reaching_start, unseen_left, not_all_reached}
 use Rattle.rank_assign.proofs.WayLemmas.{IsMarked, marked_next, marked_end, marked_step}

@@ -1,5 +1,5 @@
 use Rattle.std.proofs.Common.{length, slice_index}
-use Rattle.cost_table.specs.Costs.{cell_at_place}
+use Rattle.plan_checker.specs.Costs.{cell_at_place}
 use Rattle.rank_assign.specs.Ways.{near_at, via_at, turn_at, IsReaching}
 use Rattle.rank_assign.proofs.ways.reach.Given as goal
 

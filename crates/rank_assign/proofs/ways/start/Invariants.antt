@@ -1,5 +1,5 @@
 use Rattle.std.proofs.Common.{◌+◌, ◌<◌, ℕ, length, slice_index, slice_index_or}
-use Rattle.cost_table.specs.Costs.{cell_at_place}
+use Rattle.plan_checker.specs.Costs.{cell_at_place}
 use Rattle.rank_assign.specs.Ways.{no_way, IsFirstWay}
 use Rattle.rank_assign.proofs.ways.start.Given as goal
 

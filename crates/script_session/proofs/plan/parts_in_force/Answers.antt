@@ -1,9 +1,9 @@
 use Rattle.std.proofs.Common.{◌∙◌, ap, length, subst, sym}
 use Rattle.std.proofs.lemmas.Result.{IfOk-weaker}
 use Rattle.mds_types.specs.Problem.{ProblemData}
-use Rattle.board_state.specs.State.{Force}
+use Rattle.mds_board.specs.State.{Force}
 use Rattle.mds_board.specs.History.{IsReplay, World}
-use Rattle.board_state.specs.State.{start}
+use Rattle.mds_board.specs.State.{start}
 use Rattle.script_session.proofs.PlanLemmas.{length-rows, only_force, some_force, told_force, told_plan, tops_in_force}
 use Rattle.script_session.proofs.plan.parts_in_force.Goals as goal
 

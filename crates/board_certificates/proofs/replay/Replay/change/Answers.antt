@@ -3,10 +3,10 @@ use Rattle.std.specs.Prelude.{ℤ}
 use Rattle.board_certificates.specs.Replayed.{IsReplayed}
 use Rattle.board_certificates.specs.declared.replay.Replay.{Replay}
 use Rattle.board_certificates.proofs.ReplayLemmas.{elsewhere, made, none_of, on_ok_three, pinnable, pinned, removable, removed, value_same}
-use Rattle.board_state.specs.declared.change.Change.{Change}
-use Rattle.board_state.specs.declared.change.Change.TheVariants.{Make, Remove}
-use Rattle.board_state.specs.declared.change.Change.TheVariants as change
-use Rattle.board_state.specs.State.{next, refusal}
+use Rattle.mds_board.specs.declared.change.Change.{Change}
+use Rattle.mds_board.specs.declared.change.Change.TheVariants.{Make, Remove}
+use Rattle.mds_board.specs.declared.change.Change.TheVariants as change
+use Rattle.mds_board.specs.State.{next, refusal}
 use Rattle.dir_pins.specs.Pins.{pin_refusal, with_pin}
 use Rattle.board_certificates.proofs.replay.Replay.change.Goals as goal
 

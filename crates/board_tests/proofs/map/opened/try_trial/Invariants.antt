@@ -1,4 +1,4 @@
-use Rattle.naming.specs.Names.{no_table}
+use Rattle.proof_names.specs.Names.{no_table}
 use Rattle.board_tests.proofs.map.opened.try_trial.Given as goal
 
 -- the map's name is that of what was opened for it

@@ -1,8 +1,8 @@
 use Rattle.std.proofs.Common.{◌∙◌, ◌++◌, ◌∷◌, [], List, ap, sym}
 use Rattle.mds_types.specs.declared.order.Order.{Order}
 use Rattle.mds_types.specs.declared.plan.Plan.{Plan}
-use Rattle.board_state.specs.declared.change.Answer.TheVariants as answer
-use Rattle.board_state.specs.declared.change.Change.TheVariants as change
+use Rattle.mds_board.specs.declared.change.Answer.TheVariants as answer
+use Rattle.mds_board.specs.declared.change.Change.TheVariants as change
 use Rattle.mds_board.specs.declared.entry.Entry.{Entry}
 use Rattle.mds_board.proofs.Replays.{keeps}
 use Rattle.mds_board.proofs.board.Board.adopt.Goals as goal

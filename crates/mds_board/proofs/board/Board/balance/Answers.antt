@@ -1,7 +1,7 @@
 use Rattle.std.proofs.Common.{◌∙◌, ◌++◌, ◌∷◌, [], List, Vec, Global, ap, sym}
 use Rattle.mds_types.specs.declared.order.Order.{Order}
-use Rattle.board_state.specs.declared.change.Answer.TheVariants as answer
-use Rattle.board_state.specs.declared.change.Change.TheVariants as change
+use Rattle.mds_board.specs.declared.change.Answer.TheVariants as answer
+use Rattle.mds_board.specs.declared.change.Change.TheVariants as change
 use Rattle.mds_board.specs.declared.entry.Entry.{Entry}
 use Rattle.mds_board.proofs.Replays.{balance_keeps, balance_recorded, balance_reply}
 use Rattle.mds_board.proofs.board.Board.balance.Goals as goal

@@ -1,7 +1,7 @@
 use Rattle.std.proofs.Common.{◌∙◌, ◌++◌, ◌∷◌, [], List, ap}
 use Rattle.heat_ledger.specs.Rows.{counted_rows}
-use Rattle.board_state.specs.declared.change.Answer.TheVariants as answer
-use Rattle.board_state.specs.declared.change.Change.TheVariants as change
+use Rattle.mds_board.specs.declared.change.Answer.TheVariants as answer
+use Rattle.mds_board.specs.declared.change.Change.TheVariants as change
 use Rattle.mds_board.specs.declared.entry.Entry.{Entry}
 use Rattle.mds_board.proofs.Replays.{keeps}
 use Rattle.mds_board.proofs.board.Board.deposit.Goals as goal

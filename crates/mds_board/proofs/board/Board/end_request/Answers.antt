@@ -1,8 +1,8 @@
 use Rattle.std.proofs.Common.{◌∙◌, ◌++◌, ◌∷◌, [], List, ap, sym}
 use Rattle.export_protocol.specs.declared.event.Event.TheVariants as Event
-use Rattle.board_state.specs.declared.change.Answer.{Answer}
-use Rattle.board_state.specs.declared.change.Answer.TheVariants as answer
-use Rattle.board_state.specs.declared.change.Change.TheVariants as change
+use Rattle.mds_board.specs.declared.change.Answer.{Answer}
+use Rattle.mds_board.specs.declared.change.Answer.TheVariants as answer
+use Rattle.mds_board.specs.declared.change.Change.TheVariants as change
 use Rattle.mds_board.specs.declared.entry.Entry.{Entry}
 use Rattle.mds_board.proofs.Replays.{end_changes, keeps}
 use Rattle.mds_board.proofs.board.Board.end_request.Goals as goal

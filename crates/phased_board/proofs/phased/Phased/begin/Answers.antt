@@ -3,9 +3,9 @@ use Rattle.std.specs.Prelude.{IfErr, IfOk}
 use mathlib.Core.List.{IsPrefix}
 use Rattle.export_protocol.specs.declared.event.Event.{Event}
 use Rattle.export_protocol.specs.declared.event.Reply.TheVariants as reply
-use Rattle.board_state.specs.declared.change.Answer.TheVariants as answer
-use Rattle.board_state.specs.declared.change.Change.TheVariants as change
-use Rattle.board_state.specs.Steps.{spelled}
+use Rattle.mds_board.specs.declared.change.Answer.TheVariants as answer
+use Rattle.mds_board.specs.declared.change.Change.TheVariants as change
+use Rattle.mds_board.specs.Steps.{spelled}
 use Rattle.export_rounds.specs.Moments.{IsMet}
 use Rattle.export_rounds.proofs.Asking.{follows}
 use Rattle.mds_board.specs.declared.entry.Entry.{Entry}

@@ -1,9 +1,9 @@
 use Rattle.std.proofs.Common.{List, refl, subst, sym}
 use Rattle.std.specs.Prelude.{IfErr}
 use Rattle.heat_ledger.specs.Rows.{counted_rows}
-use Rattle.board_state.specs.declared.change.Answer.TheVariants as answer
-use Rattle.board_state.specs.declared.change.Change.TheVariants as change
-use Rattle.board_state.specs.Steps.{spelled}
+use Rattle.mds_board.specs.declared.change.Answer.TheVariants as answer
+use Rattle.mds_board.specs.declared.change.Change.TheVariants as change
+use Rattle.mds_board.specs.Steps.{spelled}
 use Rattle.export_rounds.specs.Moments.{IsMet}
 use Rattle.mds_board.specs.declared.entry.Entry.{Entry}
 use Rattle.phased_board.proofs.GoingOn.{requests_on, since_of}

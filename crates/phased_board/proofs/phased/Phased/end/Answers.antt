@@ -1,8 +1,8 @@
 use Rattle.std.proofs.Common.{refl}
 use Rattle.export_protocol.specs.declared.event.Event.{Event}
-use Rattle.board_state.specs.declared.change.Answer.TheVariants as answer
-use Rattle.board_state.specs.declared.change.Change.TheVariants as change
-use Rattle.board_state.specs.Steps.{spelled}
+use Rattle.mds_board.specs.declared.change.Answer.TheVariants as answer
+use Rattle.mds_board.specs.declared.change.Change.TheVariants as change
+use Rattle.mds_board.specs.Steps.{spelled}
 use Rattle.phased_board.proofs.GoingOn.{requests_on, since_of}
 use Rattle.phased_board.proofs.Later.{met_now}
 use Rattle.phased_board.proofs.phased.Phased.end.Goals as goal

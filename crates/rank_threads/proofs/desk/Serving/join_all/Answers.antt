@@ -8,7 +8,7 @@ use Rattle.rank_threads.specs.Asking.{Asking}
 use Rattle.rank_threads.specs.Ways.{Hand, hands_of}
 use Rattle.rank_threads.proofs.Joining.{all_joined, hands_last, hands_long, none_joined, one_joined, told_done}
 use Rattle.rank_threads.proofs.Returning.{clean_last}
-use Rattle.seen_log.specs.Numbers.{AreApart}
+use Rattle.proof_names.specs.Numbers.{AreApart}
 use Rattle.rank_threads.proofs.desk.Serving.join_all.Goals as goal
 
 abbrev items : List (Vec WorkAnswer Global) → List (List WorkAnswer)

@@ -7,7 +7,7 @@ use Rattle.rank_threads.specs.Answered.{IsDepositTold}
 use Rattle.rank_threads.specs.Asking.{askings}
 use Rattle.rank_threads.specs.Ways.{Hand, hands_of}
 use Rattle.rank_threads.proofs.Joining.{AreJoinedBut}
-use Rattle.seen_log.specs.Numbers.{AreApart}
+use Rattle.proof_names.specs.Numbers.{AreApart}
 use Rattle.rank_threads.proofs.desk.Serving.join_all.Given as goal
 
 -- the ranks so far have answered, and the rest is asked

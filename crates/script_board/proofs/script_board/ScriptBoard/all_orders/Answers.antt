@@ -1,5 +1,5 @@
 use Rattle.std.proofs.Common.{◌∙◌, append-nil, sym}
-use Rattle.board_state.specs.State.{pin_orders}
+use Rattle.mds_board.specs.State.{pin_orders}
 use Rattle.script_board.proofs.script_board.ScriptBoard.all_orders.Goals as goal
 
 pub loop-order-init : goal.loop-order-init

@@ -1,5 +1,5 @@
 use Rattle.std.proofs.Common.{◌≡◌, ◌++◌, take}
-use Rattle.board_state.specs.State.{pin_orders}
+use Rattle.mds_board.specs.State.{pin_orders}
 use Rattle.script_board.proofs.script_board.ScriptBoard.all_orders.Given as goal
 
 -- the orders of pins, and those of the last plan so far

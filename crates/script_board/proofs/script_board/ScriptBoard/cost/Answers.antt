@@ -1,6 +1,6 @@
 use Rattle.std.proofs.Common.{◌≡◌, List, sym, subst}
-use Rattle.division_cost.specs.declared.division.Part.{Part}
-use Rattle.division_cost.specs.Parts.{Marks, parts}
+use Rattle.tree_parts.specs.declared.division.Part.{Part}
+use Rattle.tree_parts.specs.Parts.{Marks, parts}
 use Rattle.script_board.specs.Board.{BoardData}
 use Rattle.script_board.specs.Cost.{AreThere}
 use Rattle.script_board.proofs.CostLemmas.{parts_there, root_marked}

@@ -1,9 +1,9 @@
 use Rattle.std.proofs.Common.{◌≡◌, ◌∙◌, List, subst, refl}
 use Rattle.mds_types.specs.declared.order.Order.{Order}
 use Rattle.mds_types.specs.declared.plan.Plan.{Plan}
-use Rattle.board_state.specs.declared.change.Answer.{Answer}
-use Rattle.board_state.specs.declared.change.Answer.TheVariants.{Orders}
-use Rattle.board_state.specs.State.{dirs_of, plan_orders}
+use Rattle.mds_board.specs.declared.change.Answer.{Answer}
+use Rattle.mds_board.specs.declared.change.Answer.TheVariants.{Orders}
+use Rattle.mds_board.specs.State.{dirs_of, plan_orders}
 use Rattle.mds_board.proofs.Replays.{balance_reply}
 use Rattle.script_board.specs.Board.{BoardData}
 use Rattle.script_board.specs.Plan.{IsPlanned}

@@ -1,5 +1,5 @@
 use Rattle.std.proofs.Common.{◌≡◌, ℕ, List, Ok, length, map, take}
-use Rattle.division_cost.specs.Parts.{Marks}
+use Rattle.tree_parts.specs.Parts.{Marks}
 use Rattle.script_board.specs.Cost.{tops}
 use Rattle.script_board.proofs.script_board.ScriptBoard.tops.Given as goal
 

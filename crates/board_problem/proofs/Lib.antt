@@ -1,5 +1,0 @@
-pub mod DirDivisions
-pub mod PartsSoFar
-pub mod Places
-pub mod RowsSoFar
-pub mod TopsOfParts

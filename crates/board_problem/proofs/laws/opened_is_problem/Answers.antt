@@ -1,5 +1,0 @@
-use Rattle.board_problem.proofs.RowsSoFar.{problem}
-use Rattle.board_problem.proofs.laws.opened_is_problem.Goals as goal
-
-pub returns : goal.returns
-returns c entries own heats now ranks tree small cool some = problem entries own heats now tree ranks small cool some

@@ -1,5 +1,0 @@
-use Rattle.board_problem.proofs.RowsSoFar.{parents_row}
-use Rattle.board_problem.proofs.laws.parents_are_rows.Goals as goal
-
-pub returns : goal.returns
-returns c entries own heats now i tree h = parents_row entries own heats now tree i h

@@ -1,4 +1,0 @@
-pub mod DirDivision
-pub mod OpenError
-pub mod PlanParts
-pub mod ProblemRows

@@ -1,4 +1,0 @@
-pub mod Accepted
-pub mod Fitting
-pub mod Mapping
-pub mod Planned

@@ -1,4 +1,0 @@
-pub mod Refused
-pub mod Weights
-pub mod State
-pub mod Steps

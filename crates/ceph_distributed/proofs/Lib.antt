@@ -1,2 +1,0 @@
-mod Jumps
-mod Scatters

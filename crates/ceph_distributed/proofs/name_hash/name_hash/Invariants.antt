@@ -1,6 +1,0 @@
-use Rattle.std.proofs.Common.{◌≡◌}
-use Rattle.ceph_distributed.specs.NameHash.{after_blocks}
-use Rattle.ceph_distributed.proofs.name_hash.name_hash.Given as goal
-
-abbrev pub invariant-loop-block : goal.invariant-loop-block
-invariant-loop-block l = l.words ≡ after_blocks l.name l.block

@@ -1,5 +1,0 @@
-use Rattle.ceph_distributed.specs.Spreads.{IsPlaceFound}
-use Rattle.ceph_distributed.proofs.spread.hottest.Given as goal
-
-abbrev pub invariant-loop-at : goal.invariant-loop-at
-invariant-loop-at l = IsPlaceFound l.directories l.below l.hot l.at l.found

@@ -1,4 +1,0 @@
-pub mod Children
-pub mod NameHash
-pub mod Ranks
-pub mod Spreads

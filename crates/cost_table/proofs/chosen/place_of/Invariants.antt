@@ -1,6 +1,0 @@
-use Rattle.std.proofs.Common.{◌≡◌, ◌≤◌}
-use Rattle.cost_table.specs.Costs.{rank_place}
-use Rattle.cost_table.proofs.chosen.place_of.Given as goal
-
-abbrev pub invariant-loop-number : goal.invariant-loop-number
-invariant-loop-number l = (l.place ≡ rank_place l.ranks l.number) × (l.place ≤ l.number)

@@ -1,6 +1,0 @@
-use Rattle.std.proofs.Common.{◌≡◌}
-use Rattle.cost_table.proofs.InodeLemmas.{total_so_far}
-use Rattle.cost_table.proofs.inodes.total.Given as goal
-
-abbrev pub invariant-loop-rank : goal.invariant-loop-rank
-invariant-loop-rank l = l.total ≡ total_so_far l.sums l.part l.rank

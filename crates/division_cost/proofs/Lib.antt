@@ -1,3 +1,0 @@
-pub mod Chains
-pub mod Elements
-pub mod Passes

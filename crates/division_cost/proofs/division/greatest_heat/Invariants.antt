@@ -1,6 +1,0 @@
-use Rattle.std.proofs.Common.{◌≡◌, take}
-use Rattle.division_cost.specs.Parts.{greatest}
-use Rattle.division_cost.proofs.division.greatest_heat.Given as goal
-
-abbrev pub invariant-loop-part : goal.invariant-loop-part
-invariant-loop-part l = l.greatest ≡ greatest (take l.part-index l.parts)

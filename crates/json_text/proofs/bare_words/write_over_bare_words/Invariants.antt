@@ -1,5 +1,0 @@
-use Rattle.std.proofs.Common.{◌≡◌, length}
-use Rattle.json_text.proofs.bare_words.write_over_bare_words.Given as goal
-
-abbrev pub invariant-loop-at : goal.invariant-loop-at
-invariant-loop-at l = (l.at-end ≡ length l.text) × (length l.text ≡ length l.initial.text)

@@ -1,2 +1,0 @@
-pub mod KeyPath
-pub mod WideBytes

@@ -1,5 +1,0 @@
-use Rattle.move_orders.proofs.Sets.{are_orders}
-use Rattle.move_orders.proofs.laws.orders_are_largest.Goals as goal
-
-pub returns : goal.returns
-returns c entries now target tree = are_orders entries now target tree

@@ -1,4 +1,0 @@
-pub mod Found
-pub mod Largest
-pub mod Moves
-pub mod Orders

@@ -1,5 +1,0 @@
-use Rattle.seen_log.proofs.numbers.Numbers.give.Given as goal
-
--- the number that is given
-abbrev pub ghosts-hand : goal.ghosts-hand
-ghosts-hand g a = record { number = a._number }

@@ -1,7 +1,0 @@
-use Rattle.std.proofs.Common.{arith}
-use Rattle.seen_log.proofs.Moves.{splits}
-use Rattle.seen_log.proofs.rule.split.Goals as goal
-
-pub split_seat-requires : goal.split_seat-requires
-split_seat-requires g c =
-    let one = c.requires.table.0 in (c.requires.table.1, omega (arith, one), splits _ _)

@@ -1,0 +1,13 @@
+pub mod Chains
+pub mod DirDivisions
+pub mod Elements
+pub mod Numbers
+pub mod PartsSoFar
+pub mod Passes
+pub mod Places
+pub mod RowsSoFar
+pub mod Sets
+pub mod SoFar
+pub mod Tops
+pub mod TopsOfParts
+pub mod Unique

@@ -1,0 +1,10 @@
+pub mod DirDivision
+pub mod Division
+pub mod Found
+pub mod Largest
+pub mod Moves
+pub mod OpenError
+pub mod Orders
+pub mod Parts
+pub mod PlanParts
+pub mod ProblemRows
