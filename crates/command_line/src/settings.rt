@@ -33,6 +33,15 @@ Commands of a script, one a line:
   stop RANK         stop a rank
   restart RANK      restart a rank
   stat              print a report on all directories
+  start FROM TO [PATH ..]
+                    start an export of these directories, from one rank to another
+  deliver MESSAGE   deliver a message that was sent
+  froze EXPORT      freeze the directories of an export
+  notify EXPORT     make the map name the importer
+  abort EXPORT      give an export up
+  ask EXPORT        ask the exporter what became of an export
+  begin RANK PATH   begin a request at a rank
+  end TICKET        end a request
 
 Exit status:
   0  every line was accepted
