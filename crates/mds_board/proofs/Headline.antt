@@ -24,7 +24,7 @@ use Rattle.mds_board.specs.Steps.{IsBestForOpen}
 use Rattle.mds_board.proofs.Accepted.{may_make, may_remove, may_step, no_cause}
 use Rattle.mds_board.specs.declared.entry.Entry.{Entry}
 use Rattle.mds_board.specs.History.{IsReplay, after}
-use Rattle.mds_board.specs.Promises.{AdoptsBest, OpensDirectories, leaves_problem, cluster_event, cluster_events}
+use Rattle.mds_board.specs.Promises.{AdoptsBest, AdoptsCoolest, OpensDirectories, leaves_problem, cluster_event, cluster_events}
 
 -- the first entries and the rest of a replay
 
@@ -178,6 +178,28 @@ opens_directories limit active history t r earlier more reply is =
       parts.1.2 ∙ opened_reply s,
       tree,
       λ plan best label is. no_cooler s.directories.entries s.pins.own s.heats.heats (authorities s) tree (rank_count (usable s)) label plan.greatest best.least is,
+    )
+
+-- Each adopted plan divides the directories as they were at the opening of its problem.
+
+same_problem : (p q : ProblemData) → (let r : Answer = answer.Problem p in r) ≡ answer.Problem q → p ≡ q
+same_problem p q is = cc
+
+pub adopts_coolest : (first : State) (history : List Entry) → OpensDirectories first history → AdoptsBest history → AdoptsCoolest first history
+adopts_coolest first history opens adopts before more plan reply is =
+    let a = adopts before more plan reply is in
+    let adoption : Entry = record { change = Adopt plan; reply = reply } in
+    let opening : Entry = record { change = Open; reply = answer.Problem a.2 } in
+    let o = opens a.0 (a.1 ++ adoption ∷ more) (answer.Problem a.2)
+    (is ∙ (ap (λ (es : List Entry). es ++ adoption ∷ more) a.3 ∙ append_assoc a.0 (opening ∷ a.1) (adoption ∷ more))) in
+    let asked = same_problem a.2 (problem_of (after first a.0)) o.0 in (
+      a.0,
+      a.1,
+      (
+        a.3 ∙ ap (λ (r : Answer). a.0 ++ record { change = Open; reply = r } ∷ a.1) o.0,
+        a.4,
+        o.2 plan (subst (λ (q : ProblemData). IsBest q plan) asked a.5),
+      ),
     )
 
 -- The cluster is the machine's after the history's events.

@@ -66,11 +66,11 @@ keeps old new history kept c reply h step is =
     subst (λ (p : Present). IsHistory p.state kept) (sym step.3) held
 
 -- the entries of a balance: a problem is opened, and its plan adopted with its orders
-balance_entries : (old new : Present) (history kept : List Entry) (problem : ProblemData) (plan : Plan) (orders : List Order) → IsBalance old problem plan orders new
+balance_entries : (also : ProblemData → Plan → Type 0) (old new : Present) (history kept : List Entry) (problem : ProblemData) (plan : Plan) (orders : List Order) → IsBalance also old problem plan orders new
     → kept ≡ history ++ record { change = Open; reply = answer.Problem problem } ∷ record { change = Adopt plan; reply = answer.Orders orders } ∷ []
     → kept ≡ (history ++ entry_of old.state Open ∷ []) ++ entry_of (next old.state Open) (Adopt plan) ∷ []
 unfolding happens
-balance_entries old new history kept problem plan orders b is =
+balance_entries also old new history kept problem plan orders b is =
     is
     ∙ (ap (λ (q : ProblemData). history ++ record { change = Open; reply = answer.Problem q } ∷ record { change = Adopt plan; reply = answer.Orders orders } ∷ []) b.1
     ∙ (ap (λ (os : List Order). history ++ entry_of old.state Open ∷ record { change = Adopt plan; reply = answer.Orders os } ∷ []) b.4
@@ -81,23 +81,23 @@ unfolding happens
 allowed s plan h = h
 
 -- the same for a problem that is opened and its plan that is adopted
-pub balance_keeps : (old new : Present) (history kept : List Entry) (problem : ProblemData) (plan : Plan) (orders : List Order) → IsHistory old.state history
-    → IsBalance old problem plan orders new
+pub balance_keeps : (also : ProblemData → Plan → Type 0) (old new : Present) (history kept : List Entry) (problem : ProblemData) (plan : Plan) (orders : List Order) → IsHistory old.state history
+    → IsBalance also old problem plan orders new
     → kept ≡ history ++ record { change = Open; reply = answer.Problem problem } ∷ record { change = Adopt plan; reply = answer.Orders orders } ∷ []
     → IsHistory new.state kept
-balance_keeps old new history kept problem plan orders h b is =
+balance_keeps also old new history kept problem plan orders h b is =
     let s = old.state in
     let first = goes_on s history Open h b.0 tt in
     let second = goes_on (next s Open) (history ++ entry_of s Open ∷ []) (Adopt plan) first b.2 (allowed s plan (b.3, b.6)) in
     let all : IsHistory (next (next s Open) (Adopt plan)) kept =
-    subst (λ es. IsHistory (next (next s Open) (Adopt plan)) es) (sym (balance_entries old new history kept problem plan orders b is)) second in
+    subst (λ es. IsHistory (next (next s Open) (Adopt plan)) es) (sym (balance_entries also old new history kept problem plan orders b is)) second in
     subst (λ (p : Present). IsHistory p.state kept) (sym b.5) all
 
-pub balance_recorded : (old new : Present) (history kept : List Entry) (problem : ProblemData) (plan : Plan) (orders : List Order) → IsBalance old problem plan orders new
+pub balance_recorded : (also : ProblemData → Plan → Type 0) (old new : Present) (history kept : List Entry) (problem : ProblemData) (plan : Plan) (orders : List Order) → IsBalance also old problem plan orders new
     → kept ≡ history ++ record { change = Open; reply = answer.Problem problem } ∷ record { change = Adopt plan; reply = answer.Orders orders } ∷ []
     → world_of new kept ≡ recorded (recorded (world_of old history) Open) (Adopt plan)
-balance_recorded old new history kept problem plan orders b is =
-    rw (b.5, balance_entries old new history kept problem plan orders b is) refl
+balance_recorded also old new history kept problem plan orders b is =
+    rw (b.5, balance_entries also old new history kept problem plan orders b is) refl
 
 -- the reply of the adoption is the plan's orders in the state before the opening
 pub balance_reply : (s : State) (plan : Plan) → (happens (next s Open) (Adopt plan)).reply ≡ answer.Orders (plan_orders s (dirs_of s) plan)

@@ -57,6 +57,17 @@ AdoptsBest history =
     × (before ≡ earlier ++ record { change = Open; reply = answer.Problem problem } ∷ between)
     × All (λ e. leaves_problem e.change ≡ true) between × IsBest problem plan × IsCertified problem plan
 
+-- Each plan in a history that begins at first was adopted after a problem was opened, with only weights, deposits, ticks
+-- and events of the cluster in between, and no division of the directories as they were at that opening is cooler.
+abbrev pub AdoptsCoolest : State → List Entry → Type 0
+AdoptsCoolest first history =
+    (before more : List Entry) (plan : Plan) (reply : Answer)
+    → history ≡ before ++ record { change = Adopt plan; reply = reply } ∷ more
+    → (earlier between : List Entry)
+    × let s = after first earlier in
+    (before ≡ earlier ++ record { change = Open; reply = answer.Problem (problem_of s) } ∷ between)
+    × All (λ e. leaves_problem e.change ≡ true) between × IsCoolest s plan
+
 -- the events of the cluster that a change makes
 abbrev pub cluster_event : Change → List Event
 cluster_event (Make parent name inodes) = Made parent ∷ []

@@ -15,7 +15,6 @@ use Rattle.mds_types.specs.declared.order.Order.{Order}
 use Rattle.mds_types.specs.declared.plan.Plan.{Plan}
 use Rattle.mds_types.specs.Problem.{ProblemData}
 use Rattle.mds_types.specs.Certificate.{IsBest, IsCertified}
-use Rattle.plan_checker.specs.Present.{KeepsBest}
 use Rattle.mds_board.specs.declared.board_error.BoardError.{BoardError}
 use Rattle.mds_board.specs.declared.board_error.BoardError.TheVariants.{Memory, NotBest}
 use Rattle.mds_board.specs.declared.change.Answer.{Answer}
@@ -70,14 +69,14 @@ spelled reply (Ok x) = Ok (reply x)
 spelled reply (Err error) = Err error
 
 -- The problem is opened, and this best plan adopted, with these orders: two changes,
--- of which neither has a cause to be refused. The plan moves nothing where the present placement is itself best.
-abbrev pub IsBalance : Present → ProblemData → Plan → List Order → Present → Type 0
-IsBalance old problem plan orders new =
+-- of which neither has a cause to be refused. What the solver promises of its plans beside that holds of it too.
+abbrev pub IsBalance : (ProblemData → Plan → Type 0) → Present → ProblemData → Plan → List Order → Present → Type 0
+IsBalance also old problem plan orders new =
     (refusal old.state Open ≡ None) × (problem ≡ problem_of old.state)
     × (refusal (next old.state Open) (Adopt plan) ≡ None) × IsBest (problem_of old.state) plan
     × (orders ≡ plan_orders old.state (dirs_of old.state) plan)
     × (new ≡ stepped (stepped old Open) (Adopt plan)) × IsCertified (problem_of old.state) plan
-    × KeepsBest (problem_of old.state) plan
+    × also (problem_of old.state) plan
 
 -- the error where there was no memory: the cause that applies, if one does
 abbrev pub refused_for : Option BoardError → BoardError

@@ -51,7 +51,7 @@ impl<J: Naming, M: Publisher<J>> BoardState<J, M> {
         alloc: Global,
         solver: &S,
     ) -> Result<Balanced, BoardError>
-        ensures ok { IfOk result (λ r. IsBalance self.old r.problem r.plan r.orders self.new) }
+        ensures ok { IfOk result (λ r. IsBalance S.also self.old r.problem r.plan r.orders self.new) }
         ensures twice { IfOk result (λ r. r.given.items ≡ r.orders) }
         ensures err { IfErr result (λ e. (balance_refusal self.old.state ≡ Some e)
             ⊎ ((balance_refusal self.old.state ≡ None) × (e ≡ BoardError.Memory))) }
@@ -100,11 +100,10 @@ fn solved<S: Solver, R: Threads + Sync>(
 ) -> Result<KeptPlan, AllocError>
     ensures best { IfOk result (λ plan. IsBest problem.now plan) }
     ensures certified { IfOk result (λ plan. IsCertified problem.now plan) }
-    ensures keeps { IfOk result (λ plan. KeepsBest problem.now plan) }
+    ensures also { IfOk result (λ plan. S.also problem.now plan) }
 {
     let plan = solver.solve(rt, alloc, problem)?;
     KeptPlan::new(alloc, plan)
 }
 
 ghost use Rattle.mds_types.specs.Certificate.{IsBest, IsCertified};
-ghost use Rattle.plan_checker.specs.Present.{KeepsBest};

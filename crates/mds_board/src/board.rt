@@ -2,7 +2,6 @@
 ghost use Rattle.std.specs.Prelude.{◌≡◌, ◌≤◌, ◌⊎◌, ℕ, ◌+◌, [], All, IfOk, IfErr, IsErr, OnOk, OnErr};
 ghost use Rattle.std.specs.Prelude.{MatchBool, None, Some, false, replicate, true};
 ghost use Rattle.mds_types.specs.Certificate.{IsBest, IsCertified};
-ghost use Rattle.plan_checker.specs.Present.{KeepsBest};
 ghost use Rattle.mds_types.specs.declared.plan.Plan.{Plan};
 ghost use Rattle.heat_ledger.specs.Opening.{fresh_share};
 ghost use Rattle.heat_ledger.specs.Ledger.{IsClean, begun_of, hits_of, pending_of, weight_of};
@@ -258,8 +257,8 @@ impl<J: Naming, M: Publisher<J>> Board<J, M> {
     }
 
     /// Opens the problem, solves it and adopts the plan: two events. It returns the plan's orders, as the history has
-    /// them. Where the present placement is itself best, the plan moves nothing. It fails only for a full history, a
-    /// balancer that is off, or memory.
+    /// them. What the solver promises of its plans holds of this one. It fails only for a full history, a balancer that
+    /// is off, or memory.
     #[tactic(auto, unfolding(crate::specs::State::happens))]
     pub fn balance<S: Solver, R: Threads + Sync>(
         &mut self,
@@ -268,7 +267,7 @@ impl<J: Naming, M: Publisher<J>> Board<J, M> {
         solver: &S,
     ) -> Result<Vec<Order>, BoardError>
         ensures ok { IfOk result (λ orders. (plan : Plan) × IsBest (problem_of self.old.state) plan
-            × IsCertified (problem_of self.old.state) plan × KeepsBest (problem_of self.old.state) plan
+            × IsCertified (problem_of self.old.state) plan × S.also (problem_of self.old.state) plan
             × (refusal self.old.state Change.Open ≡ None)
             × (Answer.Orders orders.items ≡ (happens (next self.old.state Change.Open) (Change.Adopt plan)).reply)
             × (self.new ≡ recorded (recorded self.old Change.Open) (Change.Adopt plan))) }

@@ -2,10 +2,11 @@
 ghost use Rattle.std.specs.Prelude.{◌≡◌, ◌++◌, IfOk, MatchOption, None, OnOk};
 ghost use Rattle.std.specs.Option.{option_map};
 ghost use Rattle.heat_ledger.specs.Rows.{at, entry};
-ghost use Rattle.mds_board.specs.State.{pin_orders, usable};
+ghost use Rattle.mds_board.specs.State.{pin_orders, start as first_state, usable};
 ghost use Rattle.mds_board.specs.InForce.{IsBestInForce, adopted, adopted_at, plan_in_force};
 ghost use Rattle.export_protocol.specs.Step.{run, start};
-ghost use Rattle.mds_board.specs.Promises.{IsKept, cluster_event, cluster_events};
+ghost use Rattle.export_protocol.specs.Promises.{OneAuthority};
+ghost use Rattle.mds_board.specs.Promises.{AdoptsBest, AdoptsCoolest, IsKept, cluster_event, cluster_events};
 ghost use Rattle.mds_board.specs.Stored.{shown_entry};
 
 use crate::board::Board;
@@ -46,7 +47,11 @@ impl<J: Naming, M: Publisher<J>> Board<J, M> {
     /// What holds of every board, whatever was done to it: its state is the replay of its history, each adopted plan
     /// is best for the problem of its opening, and each directory has exactly one authority. It does nothing.
     pub fn promises(&self)
-        ensures { IsKept self.now }
+        ensures kept { IsKept self.now }
+        ensures best { AdoptsBest self.now.history }
+        ensures coolest { AdoptsCoolest (first_state self.now.state.directories.limit self.now.state.pins.active)
+            self.now.history }
+        ensures authority { OneAuthority self.now.state.cluster }
     {
         self.state.fits();
         self.state.cluster().promised();

@@ -24,7 +24,7 @@ impl<J: Naming, M: Publisher<J>> Board<J, M> {
         commands: &[BoardCommand],
     ) -> Result<Vec<Result<Answer, BoardError>>, AllocError>
         requires fit { All (λ c. is_fit c ≡ true) commands.now }
-        ensures answers { IfOk result (λ answers. AreCarriedOut self.old commands.now answers.items self.new) }
+        ensures answers { IfOk result (λ answers. AreCarriedOut S.also self.old commands.now answers.items self.new) }
         ensures unchanged { OnErr result (self.new ≡ self.old) }
     {
         let mut answers = Vec::with_capacity(alloc, commands.len())?;
@@ -43,7 +43,7 @@ impl<J: Naming, M: Publisher<J>> Board<J, M> {
         command: &BoardCommand,
     ) -> Result<Answer, BoardError>
         requires fit { is_fit command.now ≡ true }
-        ensures { IsCarriedOut self.old command.now result self.new }
+        ensures { IsCarriedOut S.also self.old command.now result self.new }
     {
         match command {
             BoardCommand::Make(parent, name, inodes) => {
@@ -82,7 +82,7 @@ impl<J: Naming, M: Publisher<J>> Board<J, M> {
         alloc: Global,
         solver: &S,
     ) -> Result<Orders, BoardError>
-        ensures { IsCarriedOut self.old BoardCommand.Balance (spelled Answer.Orders result) self.new }
+        ensures { IsCarriedOut S.also self.old BoardCommand.Balance (spelled Answer.Orders result) self.new }
     {
         let Ok(mut place) = Orders::new(alloc, Vec::new(alloc)) else {
             return Err(or_memory(self.state.balance_refusal()));

@@ -19,6 +19,11 @@ use std::thread::Threads;
 pub struct Planner;
 
 impl Solver for Planner {
+    ghost use Rattle.plan_checker.specs.Present.{KeepsBest};
+    ghost use Rattle.planner.specs.Fewer.{IsNoWorse};
+
+    ghost also = { λ problem plan. KeepsBest problem plan × IsNoWorse problem plan };
+
     fn solve<R: Threads + Sync>(
         &self,
         rt: &R,

@@ -33,6 +33,10 @@ pub(crate) enum Case {
 pub(crate) struct Planner;
 
 impl Solver for Planner {
+    ghost use Rattle.std.specs.Prelude.{⊤};
+
+    ghost also = { λ _ _. ⊤ };
+
     fn solve<R: Threads + Sync>(
         &self,
         rt: &R,

@@ -23,7 +23,7 @@ parts-requires-clause-dirs g c =
 pub returns-clause-plan : goal.returns-clause-plan
 returns-clause-plan g c old plan is =
     told_plan old c.args.board.now plan c.args.board.now.world.state.directories.limit c.args.board.now.world.state.pins.active is
-    (subst (λ (w : World). IsReplay (start w.state.directories.limit w.state.pins.active) w.history w.state) c.board-made.ensures c.promises.ensures.replay)
+    (subst (λ (w : World). IsReplay (start w.state.directories.limit w.state.pins.active) w.history w.state) c.board-made.ensures c.promises.ensures.kept.replay)
 
 pub returns-clause-there : goal.returns-clause-there
 returns-clause-there g c =

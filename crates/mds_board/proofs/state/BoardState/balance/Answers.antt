@@ -1,7 +1,6 @@
 use Rattle.std.proofs.Common.{◌∙◌, sym, ap, subst, refl}
 use Rattle.mds_types.specs.Certificate.{IsBest, IsCertified}
 use Rattle.mds_types.specs.Problem.{ProblemData}
-use Rattle.plan_checker.specs.Present.{KeepsBest}
 use Rattle.mds_board.specs.State.{Opened, happens}
 use Rattle.mds_board.proofs.Accepted.{may_open, balance_opens, balance_adopts}
 use Rattle.mds_board.proofs.state.BoardState.balance.Goals as goal
@@ -24,5 +23,5 @@ returns-clause-ok g c =
       c.in-Ok-plan_orders.ensures.kept ∙ rw (c.deref.ensures.value, c.plan-2.ensures, dirs) refl,
       rw (problem, dirs, ← c.self.view_is) refl,
       subst (λ (q : ProblemData). IsCertified q c.in-Ok-solved.plan) asked c.in-Ok-solved.ensures.certified,
-      subst (λ (q : ProblemData). KeepsBest q c.in-Ok-solved.plan) asked c.in-Ok-solved.ensures.keeps,
+      subst (λ (q : ProblemData). g.S.Solver.also q c.in-Ok-solved.plan) asked c.in-Ok-solved.ensures.also,
     )

@@ -21,7 +21,8 @@ returns-clause-done g c =
       record {
         best = done.1;
         certified = done.2;
-        keeps = done.3;
+        keeps = done.3.0;
+        fewer = done.3.1;
         adopted = rw (done.6, same_orders kept (plan_orders c.self.inside.board.state (dirs_of c.self.inside.board.state) done.0) (done.5 ∙ balance_reply c.self.inside.board.state done.0)) refl;
       },
     )
