@@ -279,7 +279,7 @@ fn from_cut<R: Threads + Sync>(
 
 /// A plan that is best for the problem, with the proofs that show it. Where the present placement is itself best, it
 /// is that, and moves nothing. Otherwise it moves no more inodes than any placing of the parts that `search` finds:
-/// up to 512 other divisions are tried, and one that moves fewer is taken if it is as cool.
+/// other divisions are tried, and one that moves fewer is taken if it is as cool.
 ///
 /// It fails only when it is out of memory. The checker, `plan_checker::check`, says yes exactly where a plan
 /// is certified, so it accepts this one.

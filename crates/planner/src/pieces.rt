@@ -9,13 +9,13 @@ use mds_types::{ProblemRow, Rank};
 use std::alloc::{AllocError, Global};
 
 /// The most pieces that are made.
-const PIECE_LIMIT: usize = 192;
+const PIECE_LIMIT: usize = 1024;
 
 /// Connected rows, all at one rank now.
 #[derive(Clone, Copy)]
 pub struct Piece {
     /// The piece of the parent of its top. The first piece names itself.
-    pub parent: u8,
+    pub parent: u16,
     /// The heat of its rows, in accesses.
     pub heat: u64,
     /// Their inodes.
@@ -36,7 +36,7 @@ pub struct Pieces {
     /// The pieces, parents before children.
     pub list: Vec<Piece>,
     /// `of[i]` is the piece of row i.
-    pub of: Vec<u8>,
+    pub of: Vec<u16>,
 }
 
 /// The rows of a division. `part[i]` is the part of row i.
@@ -123,7 +123,7 @@ impl Pieces {
     /// Begins a piece with a row.
     fn begin(&mut self, row: ProblemRow, is_cut: bool, is_border: bool) -> Result<(), AllocError> {
         let parent = self.of.get(row.parent as usize).copied().unwrap_or(0);
-        self.of.push(self.list.len().min(PIECE_LIMIT) as u8)?;
+        self.of.push(self.list.len().min(PIECE_LIMIT) as u16)?;
         self.list.push(Piece {
             parent,
             heat: row.heat,
