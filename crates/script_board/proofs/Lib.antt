@@ -3,3 +3,4 @@ pub mod CostLemmas
 pub mod CostOfPlan
 pub mod DealingLemmas
 pub mod SlashLemmas
+pub mod StepLemmas

@@ -7,3 +7,4 @@ pub mod Plan
 pub mod PlanCost
 pub mod Serve
 pub mod Stat
+pub mod Steps

@@ -15,6 +15,7 @@ mod reads;
 pub mod script_board;
 mod serve;
 mod stat;
+mod steps;
 
 pub use fault::Fault;
 pub use load::Load;

@@ -7,6 +7,8 @@ use Rattle.std.specs.Option.{option_and_then, option_map}
 use Rattle.std.specs.Str.{bytes_eq, all_ascii_digits}
 use Rattle.mds_types.specs.declared.kind.Kind.{Kind}
 use Rattle.mds_types.specs.declared.kind.Kind.TheVariants.{Read, Write}
+use Rattle.script_commands.specs.declared.step.NumberedStep.{NumberedStep}
+use Rattle.script_commands.specs.declared.step.NumberedStep.TheVariants.{Deliver, Froze, Notify, Abort, Ask, End}
 
 -- a space, a tab or a carriage return
 abbrev pub is_blank : ℕ → Bool
@@ -64,6 +66,9 @@ pub data Command : Type 0 where
   Stop : ℕ → Command
   Restart : ℕ → Command
   Stat : Command
+  Start : ℕ → ℕ → List (List ℕ) → Command
+  Begin : ℕ → List ℕ → Command
+  Step : NumberedStep → Command
 
 -- what a word and the fields after it spell
 abbrev pub ranks : List (List ℕ) → Option Command
@@ -119,6 +124,41 @@ abbrev pub restart : List (List ℕ) → Option Command
 restart (n ∷ []) = option_map Restart (rank_of n)
 restart fields = None
 
+-- the exporter and the importer that fields name first, and the fields after them
+abbrev pub named_way : List (List ℕ) → Option (ℕ × ℕ × List (List ℕ))
+named_way (from ∷ to ∷ rest) =
+    option_and_then (λ exporter. option_map (λ importer. (exporter, importer, rest)) (rank_of to)) (rank_of from)
+named_way fields = None
+
+-- an export between two ranks, of the directories that the fields after them name
+abbrev pub start : List (List ℕ) → Option Command
+start fields = option_map (λ way. Start way.0 way.1 way.2) (named_way fields)
+
+-- a request at a rank, on the directory that a path names
+abbrev pub begin_request : List (List ℕ) → Option Command
+begin_request (n ∷ path ∷ []) = option_map (λ rank. Begin rank path) (rank_of n)
+begin_request fields = None
+
+-- the number of a message, an export or a ticket, where it is the one field
+abbrev pub its_number : List (List ℕ) → Option ℕ
+its_number (n ∷ []) = number 0 4294967295 n
+its_number fields = None
+
+abbrev pub step_of_number : (ℕ → NumberedStep) → List (List ℕ) → Option Command
+step_of_number step fields = option_map (λ n. Step (step n)) (its_number fields)
+
+-- a step of exports, or of a request, that isn't the start of an export
+abbrev pub further_step : List ℕ → List (List ℕ) → Option Command
+further_step word rest =
+    if bytes_eq word (codes "deliver") then step_of_number Deliver rest
+    else if bytes_eq word (codes "froze") then step_of_number Froze rest
+    else if bytes_eq word (codes "notify") then step_of_number Notify rest
+    else if bytes_eq word (codes "abort") then step_of_number Abort rest
+    else if bytes_eq word (codes "ask") then step_of_number Ask rest
+    else if bytes_eq word (codes "begin") then begin_request rest
+    else if bytes_eq word (codes "end") then step_of_number End rest
+    else None
+
 -- a command that has no fields after its word
 abbrev pub alone : Command → List (List ℕ) → Option Command
 alone c [] = Some c
@@ -142,7 +182,13 @@ command (word ∷ rest) =
     else if bytes_eq word (codes "stop") then stop rest
     else if bytes_eq word (codes "restart") then restart rest
     else if bytes_eq word (codes "stat") then alone Stat rest
-    else None
+    else if bytes_eq word (codes "start") then start rest
+    else further_step word rest
+
+-- whether a line is one of the two that have a list of paths, for which memory is needed
+abbrev pub keeps_paths : List (List ℕ) → Bool
+keeps_paths [] = false
+keeps_paths (word ∷ rest) = bytes_eq word (codes "cost") || bytes_eq word (codes "start")
 
 -- what a line asks for
 pub data Asked : Type 0 where

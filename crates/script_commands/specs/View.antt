@@ -22,6 +22,9 @@ view made.Move = line.Move
 view (made.Stop rank) = line.Stop rank
 view (made.Restart rank) = line.Restart rank
 view made.Stat = line.Stat
+view (made.Start export) = line.Start export.from export.to (map (λ p. p.now) export.paths.items)
+view (made.Begin rank path) = line.Begin rank path.now
+view (made.Step step) = line.Step step
 
 abbrev pub asked_view : Asked → line.Asked
 asked_view found.Nothing = line.Nothing

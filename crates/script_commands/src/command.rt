@@ -4,12 +4,15 @@ ghost use Rattle.std.specs.List.{list_all};
 ghost use Rattle.std.specs.Option.{option_map};
 ghost use Rattle.script_commands.specs.Commands.{alone, command, fields, is_plain, kind_named, kind_of};
 ghost use Rattle.script_commands.specs.Commands.{load, make_dir, mask, pin, weight};
-ghost use Rattle.script_commands.specs.Commands.{rank_of, ranks, remove_dir, restart, stop};
+ghost use Rattle.script_commands.specs.Commands.{begin_request, further_step, its_number, named_way, start};
+ghost use Rattle.script_commands.specs.Commands.{rank_of, ranks, remove_dir, restart, step_of_number, stop};
 ghost use Rattle.script_commands.specs.View.{view};
 
 use crate::fields::{fields, is_blank_line, one_field, split_field, text, two_fields};
+use crate::new_export::NewExport;
 use crate::number::{number, pin_value};
 use crate::rank_count::RankCount;
+use crate::step::NumberedStep;
 use mds_types::{Kind, Rank};
 use std::alloc::{AllocError, Global};
 
@@ -45,6 +48,12 @@ pub enum Command<'a> {
     Restart(Rank),
     /// The report on all directories.
     Stat,
+    /// An export starts.
+    Start(NewExport<'a>),
+    /// A request on the directory of a path begins at a rank.
+    Begin(Rank, &'a str),
+    /// A step that a number names.
+    Step(NumberedStep),
 }
 
 fn ranks(rest: &[u8]) -> Option<Command<'_>>
@@ -195,9 +204,132 @@ pub(crate) fn tops(alloc: Global, rest: &[u8]) -> Result<Vec<&str>, AllocError>
     texts(alloc, &fields(alloc, rest)?)
 }
 
-/// The command that a word other than `cost` and the fields after it spell, if they spell one.
+// The ranks between which an export is to go, and what comes after them.
+fn way(rest: &[u8]) -> Option<(Rank, Rank, &[u8])>
+    ensures { option_map (λ way. (way.0, way.1, fields way.2.now)) result ≡ named_way (fields rest.now) }
+{
+    let (from, rest) = split_field(rest)?;
+    let (to, rest) = split_field(rest)?;
+    let from = rank(from)?;
+    let to = rank(to)?;
+    Some((from, to, rest))
+}
+
+/// Whether a line's first word asks for an export, whose directories are all fields after the two ranks.
+pub(crate) fn is_start(word: &[u8]) -> bool
+    ensures { result ≡ bytes_eq word.now (codes "start") }
+{
+    match word {
+        b"start" => true,
+        _ => false,
+    }
+}
+
+/// The export that the fields after `start` ask for, if they ask for one. Memory is asked for its paths and for as many
+/// directories, once the ranks are found.
+pub(crate) fn start_export(alloc: Global, rest: &[u8]) -> Result<Option<Command<'_>>, AllocError>
+    requires { list_all (list_all is_plain) (fields rest.now) ≡ true }
+    ensures { IfOk result (λ found. option_map view found ≡ start (fields rest.now)) }
+{
+    let Some((from, to, rest)) = way(rest) else {
+        return Ok(None);
+    };
+    let paths = tops(alloc, rest)?;
+    let room = Vec::with_capacity(alloc, paths.len())?;
+    Ok(Some(Command::Start(NewExport {
+        from,
+        to,
+        paths,
+        room,
+    })))
+}
+
+fn begin_request(rest: &[u8]) -> Option<Command<'_>>
+    requires { list_all (list_all is_plain) (fields rest.now) ≡ true }
+    ensures { option_map view result ≡ begin_request (fields rest.now) }
+{
+    let (number, path) = two_fields(rest)?;
+    let rank = rank(number)?;
+    Some(Command::Begin(rank, text(path)))
+}
+
+// The number of a message, an export or a ticket.
+fn its_number(rest: &[u8]) -> Option<u32>
+    ensures { result ≡ its_number (fields rest.now) }
+{
+    number(one_field(rest)?, 0, u32::MAX)
+}
+
+fn deliver(rest: &[u8]) -> Option<Command<'_>>
+    ensures { option_map view result ≡ step_of_number NumberedStep.Deliver (fields rest.now) }
+{
+    let message = its_number(rest)?;
+    Some(Command::Step(NumberedStep::Deliver(message)))
+}
+
+fn froze(rest: &[u8]) -> Option<Command<'_>>
+    ensures { option_map view result ≡ step_of_number NumberedStep.Froze (fields rest.now) }
+{
+    let export = its_number(rest)?;
+    Some(Command::Step(NumberedStep::Froze(export)))
+}
+
+fn notify(rest: &[u8]) -> Option<Command<'_>>
+    ensures { option_map view result ≡ step_of_number NumberedStep.Notify (fields rest.now) }
+{
+    let export = its_number(rest)?;
+    Some(Command::Step(NumberedStep::Notify(export)))
+}
+
+fn abort(rest: &[u8]) -> Option<Command<'_>>
+    ensures { option_map view result ≡ step_of_number NumberedStep.Abort (fields rest.now) }
+{
+    let export = its_number(rest)?;
+    Some(Command::Step(NumberedStep::Abort(export)))
+}
+
+fn ask(rest: &[u8]) -> Option<Command<'_>>
+    ensures { option_map view result ≡ step_of_number NumberedStep.Ask (fields rest.now) }
+{
+    let export = its_number(rest)?;
+    Some(Command::Step(NumberedStep::Ask(export)))
+}
+
+fn end(rest: &[u8]) -> Option<Command<'_>>
+    ensures { option_map view result ≡ step_of_number NumberedStep.End (fields rest.now) }
+{
+    let ticket = its_number(rest)?;
+    Some(Command::Step(NumberedStep::End(ticket)))
+}
+
+// The step of exports that a word other than `start` and the fields after it spell, if they spell one.
+fn find_step<'a>(word: &[u8], rest: &'a [u8]) -> Option<Command<'a>>
+    requires { list_all (list_all is_plain) (fields rest.now) ≡ true }
+    ensures { option_map view result ≡ further_step word.now (fields rest.now) }
+{
+    if word == b"deliver".as_slice() {
+        deliver(rest)
+    } else if word == b"froze".as_slice() {
+        froze(rest)
+    } else if word == b"notify".as_slice() {
+        notify(rest)
+    } else if word == b"abort".as_slice() {
+        abort(rest)
+    } else if word == b"ask".as_slice() {
+        ask(rest)
+    } else if word == b"begin".as_slice() {
+        begin_request(rest)
+    } else if word == b"end".as_slice() {
+        end(rest)
+    } else {
+        None
+    }
+}
+
+/// The command that a word other than `cost` and `start` and the fields after it spell, if they spell one.
 pub(crate) fn find_command<'a>(word: &[u8], rest: &'a [u8]) -> Option<Command<'a>>
     requires other { bytes_eq word.now (codes "cost") ≡ false }
+    requires no_start { bytes_eq word.now (codes "start") ≡ false }
     requires plain { list_all (list_all is_plain) (fields rest.now) ≡ true }
     ensures { option_map view result ≡ command (word.now ∷ fields rest.now) }
 {
@@ -213,6 +345,7 @@ pub(crate) fn find_command<'a>(word: &[u8], rest: &'a [u8]) -> Option<Command<'a
 #[inline(never)]
 fn find_rarer_command<'a>(word: &[u8], rest: &'a [u8]) -> Option<Command<'a>>
     requires other { bytes_eq word.now (codes "cost") ≡ false }
+    requires no_start { bytes_eq word.now (codes "start") ≡ false }
     requires no_load { bytes_eq word.now (codes "load") ≡ false }
     requires no_dir { bytes_eq word.now (codes "dir") ≡ false }
     requires plain { list_all (list_all is_plain) (fields rest.now) ≡ true }
@@ -243,6 +376,6 @@ fn find_rarer_command<'a>(word: &[u8], rest: &'a [u8]) -> Option<Command<'a>>
     } else if word == b"stat".as_slice() {
         alone(Command::Stat, rest)
     } else {
-        None
+        find_step(word, rest)
     }
 }

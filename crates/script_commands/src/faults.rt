@@ -21,12 +21,14 @@ enum Rule {
     PinValue,
     /// The kind of hits, which can be left out.
     KindName,
+    /// Any number of paths.
+    Paths,
 }
 
 impl Rule {
     fn allows(&self, field: &[u8]) -> bool {
         match *self {
-            Rule::Any => true,
+            Rule::Any | Rule::Paths => true,
             Rule::Within(low, high) => number(field, low, high).is_some(),
             Rule::PinValue => pin_value(field).is_some(),
             Rule::KindName => kind_named(field).is_some(),
@@ -37,7 +39,7 @@ impl Rule {
 impl fmt::Display for Rule {
     fn fmt<W: fmt::Write>(&self, f: &mut fmt::Formatter<W>) -> fmt::Result {
         match *self {
-            Rule::Any => f.write_str("any text"),
+            Rule::Any | Rule::Paths => f.write_str("any text"),
             Rule::Within(low, high) => write!(f, "{low} to {high}"),
             Rule::PinValue => f.write_str("-1, or 0 to 2147483647"),
             Rule::KindName => f.write_str("r or w"),
@@ -54,7 +56,7 @@ struct Field {
 
 impl Field {
     fn can_be_left_out(&self) -> bool {
-        matches!(self.rule, Rule::KindName)
+        matches!(self.rule, Rule::KindName | Rule::Paths)
     }
 }
 
@@ -108,6 +110,36 @@ const RANK: Field = Field {
     rule: Rule::Within(0, 63),
 };
 
+const FROM: Field = Field {
+    name: "FROM",
+    rule: Rule::Within(0, 63),
+};
+
+const TO: Field = Field {
+    name: "TO",
+    rule: Rule::Within(0, 63),
+};
+
+const PATHS: Field = Field {
+    name: "PATH ..",
+    rule: Rule::Paths,
+};
+
+const MESSAGE: Field = Field {
+    name: "MESSAGE",
+    rule: Rule::Within(0, u32::MAX),
+};
+
+const EXPORT: Field = Field {
+    name: "EXPORT",
+    rule: Rule::Within(0, u32::MAX),
+};
+
+const TICKET: Field = Field {
+    name: "TICKET",
+    rule: Rule::Within(0, u32::MAX),
+};
+
 /// What a line of a command has.
 #[derive(Clone, Copy, Debug, PartialEq, Eq)]
 pub struct Form {
@@ -117,7 +149,7 @@ pub struct Form {
 }
 
 // A line of `cost` has any number of fields, so none is faulty.
-const FORMS: [Form; 14] = [
+const FORMS: [Form; 22] = [
     Form {
         word: "ranks",
         fields: &[ACTIVE],
@@ -174,6 +206,38 @@ const FORMS: [Form; 14] = [
         word: "stat",
         fields: &[],
     },
+    Form {
+        word: "start",
+        fields: &[FROM, TO, PATHS],
+    },
+    Form {
+        word: "deliver",
+        fields: &[MESSAGE],
+    },
+    Form {
+        word: "froze",
+        fields: &[EXPORT],
+    },
+    Form {
+        word: "notify",
+        fields: &[EXPORT],
+    },
+    Form {
+        word: "abort",
+        fields: &[EXPORT],
+    },
+    Form {
+        word: "ask",
+        fields: &[EXPORT],
+    },
+    Form {
+        word: "begin",
+        fields: &[RANK, PATH],
+    },
+    Form {
+        word: "end",
+        fields: &[TICKET],
+    },
 ];
 
 impl Form {
@@ -186,11 +250,6 @@ impl Form {
             }
         }
         least
-    }
-
-    // How many fields a line has at most, with the word.
-    fn most_count(&self) -> usize {
-        self.fields.len().saturating_add(1)
     }
 }
 
@@ -225,8 +284,10 @@ pub enum LineFault<'a> {
     NotPlain(&'a [u8]),
     /// This word is no command's.
     Unknown(&'a [u8]),
-    /// A line of this form has another number of fields than are there.
-    FieldCount(Form, usize),
+    /// Of a line of this form only so many fields are there, the word included.
+    Missing(Form, usize),
+    /// A line of this form has no place for this field.
+    Surplus(Form, &'a [u8]),
     /// The form doesn't allow what is in the place of this field.
     Refused(Form, RefusedField<'a>),
 }
@@ -241,7 +302,6 @@ pub struct RefusedField<'a> {
 // The fault of a line that spells no command.
 fn fault_of(line: &[u8]) -> LineFault<'_> {
     let mut word: Option<&[u8]> = None;
-    let mut last: &[u8] = b"";
     let mut count = 0usize;
     for field in line
         .split(|byte| is_blank(*byte))
@@ -251,19 +311,27 @@ fn fault_of(line: &[u8]) -> LineFault<'_> {
             return LineFault::NotPlain(field);
         }
         word = word.or(Some(field));
-        last = field;
         count = count.saturating_add(1);
     }
     let word = word.unwrap_or(b"");
     let Some(form) = form_of(word) else {
         return LineFault::Unknown(word);
     };
-    if count >= form.least_count() && count <= form.most_count() {
-        if let Some(refused) = first_refused(&form, line) {
-            return LineFault::Refused(form, refused);
-        }
+    if count < form.least_count() {
+        return LineFault::Missing(form, count);
     }
-    LineFault::FieldCount(form, count)
+    match first_refused(&form, line) {
+        Some(refused) => LineFault::Refused(form, refused),
+        None => LineFault::Surplus(form, first_surplus(&form, line)),
+    }
+}
+
+// The first field for which a form has no place.
+fn first_surplus<'a>(form: &Form, line: &'a [u8]) -> &'a [u8] {
+    line.split(|byte| is_blank(*byte))
+        .filter(|part| is_field(part))
+        .nth(form.fields.len().saturating_add(1))
+        .unwrap_or(b"")
 }
 
 // The first field that a form doesn't allow.
@@ -331,7 +399,11 @@ impl fmt::Display for LineFault<'_> {
                 let field = Quoted { field };
                 write!(f, "unknown command \"{field}\"")
             }
-            LineFault::FieldCount(form, count) => write_field_count(f, &form, count),
+            LineFault::Missing(form, count) => write_missing(f, &form, count),
+            LineFault::Surplus(form, field) => {
+                let field = Quoted { field };
+                write!(f, "{form}: unexpected \"{field}\"")
+            }
             LineFault::Refused(form, refused) => {
                 let (name, rule) = (refused.field.name, refused.field.rule);
                 let field = Quoted {
@@ -343,17 +415,22 @@ impl fmt::Display for LineFault<'_> {
     }
 }
 
-fn write_field_count<W: fmt::Write>(
+// Names the fields that can't be left out, and come after those that are there.
+fn write_missing<W: fmt::Write>(
     f: &mut fmt::Formatter<W>,
     form: &Form,
     count: usize,
 ) -> fmt::Result {
-    let (least, most) = (form.least_count(), form.most_count());
-    write!(f, "{form}: {least} ")?;
-    if least < most {
-        write!(f, "or {most} ")?;
+    write!(f, "{form}: ")?;
+    let mut missing = 0usize;
+    for field in form.fields.iter().skip(count.saturating_sub(1)) {
+        if !field.can_be_left_out() {
+            let joint = if missing == 0 { "" } else { " and " };
+            f.write_str(joint)?;
+            f.write_str(field.name)?;
+            missing = missing.saturating_add(1);
+        }
     }
-    let needed_verb = if most == 1 { "field is" } else { "fields are" };
-    let verb = if count == 1 { "is" } else { "are" };
-    write!(f, "{needed_verb} needed, {count} {verb} there")
+    let verb = if missing == 1 { "is" } else { "are" };
+    write!(f, " {verb} missing")
 }

@@ -5,10 +5,14 @@ pub mod command;
 pub mod faults;
 mod fields;
 pub mod line;
+pub mod new_export;
 mod number;
 pub mod rank_count;
+pub mod step;
 
 pub use command::Command;
 pub use faults::{LineFault, explain};
 pub use line::{Asked, read_line};
+pub use new_export::NewExport;
 pub use rank_count::RankCount;
+pub use step::NumberedStep;

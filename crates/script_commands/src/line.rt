@@ -1,9 +1,10 @@
 //! What a line asks for.
-ghost use Rattle.std.specs.Prelude.{◌≡◌, ℕ, List, ◌∷◌, codes, IfOk, OnErr};
-ghost use Rattle.script_commands.specs.Commands.{asked, fields};
-ghost use Rattle.script_commands.specs.View.{asked_view};
+ghost use Rattle.std.specs.Option.{option_map};
+ghost use Rattle.std.specs.Prelude.{◌≡◌, IfOk, OnErr, true};
+ghost use Rattle.script_commands.specs.Commands.{asked, asked_by, fields, keeps_paths};
+ghost use Rattle.script_commands.specs.View.{asked_view, view};
 
-use crate::command::{Command, find_command, is_cost, tops};
+use crate::command::{Command, find_command, is_cost, is_start, start_export, tops};
 use crate::fields::{begins_with_hash, is_plain_line, split_field};
 use std::alloc::{AllocError, Global};
 
@@ -17,10 +18,20 @@ pub enum Asked<'a> {
     Asks(Command<'a>),
 }
 
-/// What a line asks for. Only memory can be refused, which no line needs but one that asks for a cost.
+// What a line asks for, if it spells this command or none.
+fn asked_by(found: Option<Command<'_>>) -> Asked<'_>
+    ensures { asked_view result ≡ asked_by (option_map view found.entry) }
+{
+    match found {
+        Some(command) => Asked::Asks(command),
+        None => Asked::Syntax,
+    }
+}
+
+/// What a line asks for. Only memory can be refused, which no line needs but one that asks for a cost or for an export.
 pub fn read_line(alloc: Global, line: &[u8]) -> Result<Asked<'_>, AllocError>
     ensures asked { IfOk result (λ found. asked_view found ≡ asked line.now) }
-    ensures memory { OnErr result ((tops : List (List ℕ)) × (fields line.now ≡ codes "cost" ∷ tops)) }
+    ensures memory { OnErr result (keeps_paths (fields line.now) ≡ true) }
 {
     let Some((word, rest)) = split_field(line) else {
         return Ok(Asked::Nothing);
@@ -34,8 +45,8 @@ pub fn read_line(alloc: Global, line: &[u8]) -> Result<Asked<'_>, AllocError>
     if is_cost(word) {
         return Ok(Asked::Asks(Command::Cost(tops(alloc, rest)?)));
     }
-    match find_command(word, rest) {
-        Some(found) => Ok(Asked::Asks(found)),
-        None => Ok(Asked::Syntax),
+    if is_start(word) {
+        return Ok(asked_by(start_export(alloc, rest)?));
     }
+    Ok(asked_by(find_command(word, rest)))
 }

@@ -6,6 +6,9 @@ use Rattle.mds_board.specs.declared.board_error.BoardError.{BoardError}
 use Rattle.mds_board.specs.declared.change.Change.{Change}
 use Rattle.mds_board.specs.declared.change.Change.TheVariants as change
 use Rattle.mds_board.specs.State.{refusal}
+use Rattle.export_protocol.specs.declared.event.Event.{Event}
+use Rattle.export_protocol.specs.declared.event.Event.TheVariants as event
+use Rattle.export_protocol.specs.declared.event.Reply.{Reply}
 use Rattle.mds_board.specs.declared.entry.Entry.{Entry}
 use Rattle.mds_board.specs.History.{World, entry_of, recorded}
 use Rattle.mds_types.specs.Mask.{mask_bits}
@@ -19,9 +22,11 @@ use Rattle.script_board.specs.Commands.{◌>>=◌, changed, find, last_slash, ma
 use Rattle.script_board.specs.Fault.{unless}
 use Rattle.script_board.specs.Plan.{planned}
 use Rattle.script_board.specs.Serve.{IsGone}
+use Rattle.script_board.specs.Steps.{find_all, take_step, with_request}
 use Rattle.script_session.specs.Does.{Does, meaning}
 use Rattle.script_session.specs.History.{GoesOn, IsBeginning}
 use Rattle.script_session.specs.Printed.{Printed}
+use Rattle.script_session.specs.Steps.{event_of}
 use Rattle.script_session.specs.Session.{DoesAt, IsDone, IsTold, SessionData, answers, published}
 
 itself : (h : List Entry) → IsBeginning h h
@@ -66,6 +71,34 @@ module _ (b new : BoardData) where
   from_same : (x : BoardData) → Longer b x → fine x ≡ Ok new → Longer b new
   from_same x longer is = let same : x ≡ new = cc in subst (λ (y : BoardData). Longer b y) same longer
 
+-- a reply and the board after it
+abbrev Stepped : Type 0
+Stepped = Reply × BoardData
+
+abbrev taken : Stepped → Result Stepped Fault
+taken x = Ok x
+
+from_unless_taken : (r : Option BoardError) (b : BoardData) (x y : Stepped) → Longer b x.1 → unless r x ≡ Ok y → Longer b y.1
+from_unless_taken None b x y longer is = let same : x ≡ y = cc in subst (λ (z : Stepped). Longer b z.1) same longer
+from_unless_taken (Some e) b x y longer is = cc
+
+from_step : (b : BoardData) (e : Event) (y : Stepped) → take_step b e ≡ Ok y → Longer b y.1
+from_step b e y is = from_unless_taken (refusal b.world.state (change.Step e)) b _ y (one_more b.world (change.Step e)) is
+
+step_bound : {A : Type 0} (b : BoardData) (y : Stepped) (r : Result A Fault) (f : A → Result Stepped Fault) → ((x : A) → r ≡ Ok x → f x ≡ Ok y → Longer b y.1) → (r >>= f) ≡ Ok y → Longer b y.1
+step_bound b y (Ok x) f longer is = longer x refl is
+step_bound b y (Err e) f longer is = cc
+
+from_start : (b : BoardData) (from to : ℕ) (paths : List (List ℕ)) (y : Stepped) → (find_all b paths >>= λ dirs. take_step b (event.Start from to dirs)) ≡ Ok y → Longer b y.1
+from_start b from to paths y is = step_bound b y (find_all b paths) _ (λ dirs _ taken. from_step b (event.Start from to dirs) y taken) is
+
+counted_longer : (b : BoardData) (done y : Stepped) (rank d : ℕ) → Longer b done.1 → taken (done.0, with_request done.1 rank d) ≡ Ok y → Longer b y.1
+counted_longer b done y rank d longer is = let same : (done.0, with_request done.1 rank d) ≡ y = cc in subst (λ (z : Stepped). Longer b z.1) same longer
+
+from_begin : (b : BoardData) (rank : ℕ) (path : List ℕ) (y : Stepped) → (find b path >>= λ d. take_step b (event.Begin rank d) >>= λ done. taken (done.0, with_request done.1 rank d)) ≡ Ok y → Longer b y.1
+from_begin b rank path y is =
+    step_bound b y (find b path) _ (λ d _ begun. step_bound b y (take_step b (event.Begin rank d)) _ (λ done told counted. counted_longer b done y rank d (from_step b (event.Begin rank d) done told) counted) begun) is
+
 gone_longer : (b : BoardData) (refused : List Fault) (new : BoardData) → IsGone b refused new → Longer b new
 gone_longer b refused new h =
     let before : List Entry = b.world.history in
@@ -97,6 +130,9 @@ does_longer b line.Move p ample new h = (h.2.further.more, h.2.further.history)
 does_longer b (line.Stop rank) p ample new h = from_changed b new _ h.0
 does_longer b (line.Restart rank) p ample new h = from_changed b new _ h.0
 does_longer b line.Stat p ample new h = same_longer b new h.2
+does_longer b (line.Start from to paths) p ample new h = from_start b from to paths (h.0, new) h.1
+does_longer b (line.Begin rank path) p ample new h = from_begin b rank path (h.0, new) h.1
+does_longer b (line.Step step) p ample new h = from_step b (event_of step) (h.0, new) h.1
 
 -- a session's board goes on
 abbrev OnFrom : SessionData → SessionData → Type 0

@@ -1,12 +1,13 @@
 -- Where memory suffices, a line other than `go`, `plan` and `move` has one answer.
 use Rattle.std.proofs.Common.{◌≡◌, ℕ, Bool, true, false, List, refl, sym, ap, ◌∙◌, inl, inr, Option, Some, None, Result, Ok, Err}
+use Rattle.export_protocol.specs.declared.event.Reply.{Reply}
 use Rattle.script_engine.specs.Answers.{Answer, IsDetermined}
 use Rattle.script_commands.specs.Commands as line
 use Rattle.script_commands.specs.Commands.{Asked, Command, asked}
 use Rattle.script_board.specs.declared.fault.Fault.{Fault}
 use Rattle.script_board.specs.Board.{BoardData}
-use Rattle.script_session.specs.Does.{Changes, Does, IsQuiet, Meaning, Moves, Plans, Prints, Reports, Serves, cause, failure, is_function, meaning}
-use Rattle.script_session.specs.Outcome.{answer_to, held, is_determined, is_sure, line_outcome, outcome, outcome_at, printed, silent, told}
+use Rattle.script_session.specs.Does.{Changes, Does, IsQuiet, Meaning, Moves, Plans, Prints, Reports, Serves, Steps, cause, failure, is_function, meaning}
+use Rattle.script_session.specs.Outcome.{answer_to, held, is_determined, is_sure, line_outcome, outcome, outcome_at, printed, replied, silent, told}
 use Rattle.script_session.specs.Printed.{Printed}
 use Rattle.script_session.specs.Session.{DoesAt, IsDone, IsTold, SessionData, answers, asked_cause, cause_at}
 
@@ -17,6 +18,7 @@ does_outcome : (b : BoardData) (m : Meaning) (p : Printed) (ample : Bool) (new :
 does_outcome b (Changes change) p ample new sure h = quiet_outcome _ p ample new h
 does_outcome b (Prints print) p ample new sure h = ap (printed b) h.1 ∙ (λ i. Ok (sym h.2 i, sym h.4 i))
 does_outcome b (Reports report) p ample new sure h = λ i. Ok (sym h.0 i, sym h.2 i)
+does_outcome b (Steps step) p ample new sure h = ap replied h.1 ∙ ap (λ (x : Printed). Ok (x, new)) (sym h.2)
 does_outcome b Serves p ample new sure h = cc
 does_outcome b Plans p ample new sure h = cc
 does_outcome b Moves p ample new sure h = cc
@@ -29,10 +31,15 @@ printed_fault : (b : BoardData) (r : Result (List (List ℕ)) Fault) (fault : Fa
 printed_fault b (Ok lines) fault h = cc
 printed_fault b (Err e) fault h = cc
 
+replied_fault : (r : Result (Reply × BoardData) Fault) (fault : Fault) → failure r ≡ Some fault → replied r ≡ Err fault
+replied_fault (Ok done) fault h = cc
+replied_fault (Err e) fault h = cc
+
 cause_outcome : (b : BoardData) (m : Meaning) (fault : Fault) → is_function m ≡ true → cause b m ≡ Some fault → outcome b m ≡ Err fault
 cause_outcome b (Changes change) fault sure h = silent_fault _ fault h
 cause_outcome b (Prints print) fault sure h = printed_fault b _ fault h
 cause_outcome b (Reports report) fault sure h = cc
+cause_outcome b (Steps step) fault sure h = replied_fault _ fault h
 cause_outcome b Serves fault sure h = cc
 cause_outcome b Plans fault sure h = cc
 cause_outcome b Moves fault sure h = cc

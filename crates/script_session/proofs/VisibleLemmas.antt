@@ -9,6 +9,9 @@ use Rattle.mds_board.specs.declared.change.Change.{Change}
 use Rattle.mds_board.specs.declared.change.Change.TheVariants as change
 use Rattle.mds_board.specs.State.{refusal}
 use Rattle.tree_parts.specs.declared.division.Part.{Part}
+use Rattle.export_protocol.specs.declared.event.Event.{Event}
+use Rattle.export_protocol.specs.declared.event.Event.TheVariants as event
+use Rattle.export_protocol.specs.declared.event.Reply.{Reply}
 use Rattle.tree_parts.specs.Parts.{parts}
 use Rattle.mds_types.specs.Mask.{mask_bits}
 use Rattle.script_engine.specs.Answers.{Answer, Run, Takes, played, text_of}
@@ -19,9 +22,11 @@ use Rattle.script_board.specs.Board.{BoardData, publish}
 use Rattle.script_board.specs.Commands.{◌>>=◌, changed, find, last_slash, make_below, masked, parent_path, replanned}
 use Rattle.script_board.specs.Cost.{cost, top, tops}
 use Rattle.script_board.specs.Fault.{unless}
-use Rattle.script_session.specs.Printed.{Printed, joined}
-use Rattle.script_session.specs.Does.{Changes, Meaning, Moves, Plans, Prints, Reports, Serves, costed, is_function, meaning}
-use Rattle.script_session.specs.Outcome.{LineOutcome, Outcome, answer_to, held, is_determined, line_outcome, outcome, outcome_at, printed, silent, told}
+use Rattle.script_board.specs.Steps.{begin_at, find_all, start, take_step, with_request}
+use Rattle.script_session.specs.Printed.{Printed, joined, only_lines}
+use Rattle.script_session.specs.Does.{Changes, Meaning, Moves, Plans, Prints, Reports, Serves, Steps, costed, is_function, meaning}
+use Rattle.script_session.specs.Outcome.{LineOutcome, Outcome, answer_to, held, is_determined, line_outcome, outcome, outcome_at, printed, replied, silent, told}
+use Rattle.script_session.specs.Steps.{event_of, step_line}
 use Rattle.script_session.specs.Session.{IsTold, SessionData, answers, beginning, at_beginning, done_answer, fault_answer, published, settled}
 use Rattle.script_session.specs.Visible.{NoneSaysMemory, SaysMemory, ignores_map, is_visible, tells_all}
 use Rattle.script_session.proofs.OutcomeLemmas.{done_line, fault_line}
@@ -60,7 +65,55 @@ like_bound : (r : Result ℕ Fault) (f g : ℕ → Result BoardData Fault) → (
 like_bound (Ok d) f g l = l d
 like_bound (Err e) f g l = refl
 
+-- a reply and the board after it
+abbrev Stepped : Type 0
+Stepped = Reply × BoardData
+
+abbrev LikeStepped : Result Stepped Fault → Result Stepped Fault → Type 0
+LikeStepped (Ok x) (Ok y) = (y.0 ≡ x.0) × LikeBoards x.1 y.1
+LikeStepped (Err e) (Err f) = f ≡ e
+LikeStepped (Ok x) (Err f) = ⊥
+LikeStepped (Err e) (Ok y) = ⊥
+
+like_replied : (r s : Result Stepped Fault) → LikeStepped r s → LikeOutcome (replied r) (replied s)
+like_replied (Ok x) (Ok y) l = (ap (λ (told : Reply). only_lines (step_line told ∷ [])) l.0, l.1)
+like_replied (Err e) (Err f) l = l
+like_replied (Ok x) (Err f) l = absurd l
+like_replied (Err e) (Ok y) l = absurd l
+
+like_taken : (r : Option BoardError) (x y : Stepped) → y.0 ≡ x.0 → LikeBoards x.1 y.1 → LikeStepped (unless r x) (unless r y)
+like_taken None x y same l = (same, l)
+like_taken (Some e) x y same l = refl
+
+step_bound : {A : Type 0} (r : Result A Fault) (f g : A → Result Stepped Fault) → ((x : A) → LikeStepped (f x) (g x)) → LikeStepped (r >>= f) (r >>= g)
+step_bound (Ok x) f g l = l x
+step_bound (Err e) f g l = refl
+
+abbrev counted : ℕ → ℕ → Stepped → Result Stepped Fault
+counted rank d done = Ok (done.0, with_request done.1 rank d)
+
+like_counted : (rank d : ℕ) (r s : Result Stepped Fault) → LikeStepped r s → LikeStepped (r >>= counted rank d) (s >>= counted rank d)
+like_counted rank d (Ok x) (Ok y) l = (l.0, (l.1.0, ap (λ (c : BoardData). with_request c rank d) l.1.1))
+like_counted rank d (Err e) (Err f) l = l
+like_counted rank d (Ok x) (Err f) l = absurd l
+like_counted rank d (Err e) (Ok y) l = absurd l
+
 module _ (b : BoardData) (ops : List Operation) where
+  like_step : (e : Event) → LikeStepped (take_step b e) (take_step (shifted b ops) e)
+  like_step e = like_taken (refusal b.world.state (change.Step e)) _ _ refl (ops, refl)
+
+  same_dirs : (paths : List (List ℕ)) → find_all (shifted b ops) paths ≡ find_all b paths
+  same_dirs [] = refl
+  same_dirs (path ∷ paths) = ap (λ (r : Result (List ℕ) Fault). find b path >>= λ d. r >>= λ more. Ok (d ∷ more)) (same_dirs paths)
+
+  like_start : (from to : ℕ) (paths : List (List ℕ)) → LikeStepped (start b from to paths) (start (shifted b ops) from to paths)
+  like_start from to paths =
+      subst (λ (r : Result (List ℕ) Fault). LikeStepped (start b from to paths) (r >>= λ dirs. take_step (shifted b ops) (event.Start from to dirs))) (sym (same_dirs paths))
+      (step_bound (find_all b paths) _ _ (λ dirs. like_step (event.Start from to dirs)))
+
+  like_begin : (rank : ℕ) (path : List ℕ) → LikeStepped (begin_at b rank path) (begin_at (shifted b ops) rank path)
+  like_begin rank path = step_bound (find b path) _ _ (λ d. like_counted rank d _ _ (like_step (event.Begin rank d)))
+
   like_changed : (c : Change) → LikeResult (changed b c) (changed (shifted b ops) c)
   like_changed c = like_unless (refusal b.world.state c) _ _ (ops, refl)
 
@@ -103,6 +156,9 @@ module _ (b : BoardData) (ops : List Operation) where
   like_on_board (line.Stop rank) sure = like_silent _ _ (like_changed _)
   like_on_board (line.Restart rank) sure = like_silent _ _ (like_changed _)
   like_on_board line.Stat sure = cc
+  like_on_board (line.Start from to paths) sure = like_replied _ _ (like_start from to paths)
+  like_on_board (line.Begin rank path) sure = like_replied _ _ (like_begin rank path)
+  like_on_board (line.Step step) sure = like_replied _ _ (like_step (event_of step))
 
 -- the sessions differ at most in how much of the map is published
 abbrev LikeBoard : Option BoardData → Option BoardData → Type 0
@@ -202,6 +258,7 @@ apart_is_function : (m : Meaning) → ignores_map m ≡ true → is_function m �
 apart_is_function (Changes change) sure = refl
 apart_is_function (Prints print) sure = refl
 apart_is_function (Reports report) sure = refl
+apart_is_function (Steps step) sure = refl
 apart_is_function Serves sure = sure
 apart_is_function Plans sure = sure
 apart_is_function Moves sure = sure

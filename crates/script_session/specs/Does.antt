@@ -1,6 +1,7 @@
 -- What commands mean: what they do to a board, and why a board refuses them.
-use Rattle.std.specs.Prelude.{◌≡◌, ℕ, Bool, true, false, List, [], ◌⊎◌, Option, Some, None, Result, Ok, Err}
+use Rattle.std.specs.Prelude.{◌≡◌, ℕ, Bool, true, false, List, [], ◌∷◌, ◌⊎◌, Option, Some, None, Result, Ok, Err}
 use Rattle.tree_parts.specs.declared.division.Part.{Part}
+use Rattle.export_protocol.specs.declared.event.Reply.{Reply}
 use Rattle.mds_types.specs.declared.order.Order.{Order}
 use Rattle.mds_types.specs.declared.plan.Plan.{Plan}
 use Rattle.export_rounds.specs.declared.outcome.Outcome.{Outcome}
@@ -15,23 +16,26 @@ use Rattle.script_board.specs.Cost.{cost}
 use Rattle.script_board.specs.Move.{IsMoved}
 use Rattle.script_board.specs.Plan.{IsPlanned, plan_due}
 use Rattle.script_board.specs.Serve.{IsGone, is_ample}
+use Rattle.script_board.specs.Steps.{begin_at, start, take_step}
 use Rattle.script_session.specs.Cost.{cost_lines}
 use Rattle.script_session.specs.Move.{move_lines}
 use Rattle.script_session.specs.Plan.{parts_in_force, plan_lines}
 use Rattle.script_session.specs.Stat.{stat_lines}
+use Rattle.script_session.specs.Steps.{event_of, step_line}
 use Rattle.script_session.specs.Printed.{Printed, only_lines}
 
 abbrev pub failure : {A : Type 0} → Result A Fault → Option Fault
 failure (Ok x) = None
 failure (Err fault) = Some fault
 
--- A command changes the board and prints nothing, or prints lines about it and leaves it as it is: then a function says
--- what it does. Or the waiting requests are served, a plan is made, or directories are moved: several things may come
--- of that.
+-- A command changes the board and prints nothing, or prints lines about it and leaves it as it is, or is a step of
+-- exports or requests, to which the board replies: then a function says what it does. Or the waiting requests are
+-- served, a plan is made, or directories are moved: several things may come of that.
 pub data Meaning : Type 0 where
   Changes : (BoardData → Result BoardData Fault) → Meaning
   Prints : (BoardData → Result (List (List ℕ)) Fault) → Meaning
   Reports : (BoardData → List (List ℕ)) → Meaning
+  Steps : (BoardData → Result (Reply × BoardData) Fault) → Meaning
   Serves : Meaning
   Plans : Meaning
   Moves : Meaning
@@ -58,12 +62,16 @@ meaning line.Move = Moves
 meaning (line.Stop rank) = Changes (λ b. stop b rank)
 meaning (line.Restart rank) = Changes (λ b. restart b rank)
 meaning line.Stat = Reports stat_lines
+meaning (line.Start from to paths) = Steps (λ b. start b from to paths)
+meaning (line.Begin rank path) = Steps (λ b. begin_at b rank path)
+meaning (line.Step step) = Steps (λ b. take_step b (event_of step))
 
 -- why a board refuses what is meant
 abbrev pub cause : BoardData → Meaning → Option Fault
 cause b (Changes change) = failure (change b)
 cause b (Prints print) = failure (print b)
 cause b (Reports report) = None
+cause b (Steps step) = failure (step b)
 cause b Serves = None
 cause b Plans = failure (plan_due b)
 cause b Moves = None
@@ -73,6 +81,7 @@ abbrev pub is_function : Meaning → Bool
 is_function (Changes change) = true
 is_function (Prints print) = true
 is_function (Reports report) = true
+is_function (Steps step) = true
 is_function _ = false
 
 -- whether threads of the ranks do it
@@ -96,6 +105,8 @@ Does b (Changes change) p ample new = IsQuiet (change b) p ample new
 Does b (Prints print) p ample new =
     (lines : List (List ℕ)) × (print b ≡ Ok lines) × (p ≡ only_lines lines) × (ample ≡ true) × (new ≡ b)
 Does b (Reports report) p ample new = (p ≡ only_lines (report b)) × (ample ≡ true) × (new ≡ b)
+Does b (Steps step) p ample new =
+    (reply : Reply) × (step b ≡ Ok (reply, new)) × (p ≡ only_lines (step_line reply ∷ [])) × (ample ≡ true)
 Does b Serves p ample new = IsGone b p.refused new × (p.lines ≡ []) × (ample ≡ is_ample p.refused)
 Does b Plans p ample new =
     (plan : Plan) × IsPlanned b plan new × (p ≡ only_lines (plan_lines new (parts_in_force new))) × (ample ≡ true)

@@ -13,4 +13,5 @@ pub mod Reply
 pub mod Script
 pub mod Session
 pub mod Stat
+pub mod Steps
 pub mod Visible

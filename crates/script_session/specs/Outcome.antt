@@ -1,13 +1,15 @@
 -- What a line of a script does, as a function of the session, where memory suffices.
-use Rattle.std.specs.Prelude.{ℕ, Bool, true, false, List, [], Option, Some, None, Result, Ok, Err}
+use Rattle.std.specs.Prelude.{ℕ, Bool, true, false, List, [], ◌∷◌, Option, Some, None, Result, Ok, Err}
+use Rattle.export_protocol.specs.declared.event.Reply.{Reply}
 use Rattle.script_engine.specs.Answers.{Answer}
 use Rattle.script_commands.specs.Commands as line
 use Rattle.script_commands.specs.Commands.{Command, Asked, asked}
 use Rattle.script_board.specs.declared.fault.Fault.{Fault}
 use Rattle.script_board.specs.declared.fault.Fault.TheVariants.{Syntax, Memory}
 use Rattle.script_board.specs.Board.{BoardData}
-use Rattle.script_session.specs.Does.{Changes, Meaning, Prints, Reports, is_function, meaning}
+use Rattle.script_session.specs.Does.{Changes, Meaning, Prints, Reports, Steps, is_function, meaning}
 use Rattle.script_session.specs.Printed.{Printed, only_lines}
+use Rattle.script_session.specs.Steps.{step_line}
 use Rattle.script_session.specs.Session.{SessionData, at_beginning, done_answer, fault_answer, settled}
 
 -- what is printed, and the board after it
@@ -22,11 +24,16 @@ abbrev pub printed : BoardData → Result (List (List ℕ)) Fault → Outcome
 printed b (Ok lines) = Ok (only_lines lines, b)
 printed b (Err fault) = Err fault
 
+abbrev pub replied : Result (Reply × BoardData) Fault → Outcome
+replied (Ok done) = Ok (only_lines (step_line done.0 ∷ []), done.1)
+replied (Err fault) = Err fault
+
 -- Nothing is said here of what is no function of the board.
 abbrev pub outcome : BoardData → Meaning → Outcome
 outcome b (Changes change) = silent (change b)
 outcome b (Prints print) = printed b (print b)
 outcome b (Reports report) = Ok (only_lines (report b), b)
+outcome b (Steps step) = replied (step b)
 outcome b _ = Err Memory
 
 abbrev pub outcome_at : ℕ → Option BoardData → Command → Outcome

@@ -5,7 +5,7 @@ use Rattle.script_commands.specs.Commands as line
 use Rattle.script_commands.specs.Commands.{Asked, asked}
 use Rattle.script_board.specs.declared.fault.Fault.TheVariants.{Memory}
 use Rattle.script_session.specs.Fault.{words}
-use Rattle.script_session.specs.Does.{Changes, Meaning, Prints, meaning}
+use Rattle.script_session.specs.Does.{Changes, Meaning, Prints, Steps, meaning}
 use Rattle.script_session.specs.Session.{SessionData, published}
 
 -- the answer ends with the line that says `Memory`
@@ -23,6 +23,7 @@ NoneSaysMemory number (a ∷ more) = (SaysMemory number a → ⊥) × NoneSaysMe
 abbrev pub ignores_map : Meaning → Bool
 ignores_map (Changes change) = true
 ignores_map (Prints print) = true
+ignores_map (Steps step) = true
 ignores_map _ = false
 
 abbrev pub tells_all : Asked → Bool

@@ -1,5 +1,6 @@
 //! What each command does to a board.
-ghost use Rattle.std.specs.Prelude.{◌≡◌, Bool, [], IfErr, IfOk, IfSome, None, OnErr, OnOk, false, true};
+ghost use Rattle.std.specs.Prelude.{◌≡◌, Bool, [], IfErr, IfOk, IfSome, None, OnErr, OnOk, false, map, true};
+ghost use Rattle.script_commands.specs.Commands as line;
 ghost use Rattle.script_commands.specs.View.{view};
 ghost use Rattle.script_session.specs.Does.{Does, IsCaused, cause, is_by_threads, meaning};
 ghost use Rattle.script_session.specs.Done.{IsShowable, shown};
@@ -7,10 +8,11 @@ ghost use Rattle.script_session.specs.Printed.{only_lines};
 
 use crate::done::Done;
 use crate::reply::CommandReply;
+use crate::stepped::event_of;
 use authority_map::Publisher;
 use proof_names::Naming;
 use script_board::{Fault, ScriptBoard};
-use script_commands::Command;
+use script_commands::{Command, NewExport};
 use std::alloc::Global;
 use std::marker::{Send, Sync};
 use std::sync::Wait;
@@ -99,9 +101,39 @@ pub fn change<J: Naming, M: Publisher<J>, R: Threads + Sync>(
             return Ok(Done::Lines(CommandReply::Cost(board.cost(alloc, &paths)?)));
         }
         Command::Stat => return Ok(Done::Lines(CommandReply::Stat(board.directories(alloc)?))),
+        Command::Start(export) => return start(board, alloc, export),
+        Command::Begin(rank, path) => {
+            return Ok(Done::Lines(CommandReply::Step(board.begin(rank, path)?)));
+        }
+        Command::Step(step) => {
+            return Ok(Done::Lines(CommandReply::Step(board.step(alloc, event_of(step))?)));
+        }
         Command::Go | Command::Move => unreachable!(),
     }
     Ok(Done::Lines(CommandReply::Nothing))
+}
+
+// Starts an export.
+fn start<J: Naming, M: Publisher<J>>(
+    board: &mut ScriptBoard<J, M>,
+    alloc: Global,
+    export: NewExport<'_>,
+) -> Result<Done, Fault>
+    ensures done { IfOk result (λ done. Does board.old (meaning (line.Start export.entry.from export.entry.to
+        (map (λ path. path.now) export.entry.paths.items))) (shown board.new done) true board.new) }
+    ensures showable { IfOk result (IsShowable board.new) }
+    ensures fault { IfErr result (IsCaused (cause board.old (meaning (line.Start export.entry.from export.entry.to
+        (map (λ path. path.now) export.entry.paths.items))))) }
+    ensures unchanged { OnErr result (board.new ≡ board.old) }
+{
+    let NewExport {
+        from,
+        to,
+        paths,
+        room,
+    } = export;
+    let reply = board.start(alloc, from, to, &paths, room)?;
+    Ok(Done::Lines(CommandReply::Step(reply)))
 }
 
 /// Makes a directory or lets a request wait, and says how that went. Most commands are these two, and they print

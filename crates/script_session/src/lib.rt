@@ -15,6 +15,7 @@ pub mod report;
 pub mod script;
 pub mod session;
 mod stat;
+mod stepped;
 
 pub use done::Done;
 pub use hints::{Hints, Silence};

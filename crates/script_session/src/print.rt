@@ -15,6 +15,7 @@ use crate::page::Page;
 use crate::plan::{plan_line, plan_part_line};
 use crate::reply::CommandReply;
 use crate::stat::{cluster_line, dir_line};
+use crate::stepped::step_line;
 use authority_map::Publisher;
 use proof_names::Naming;
 use script_board::ScriptBoard;
@@ -144,6 +145,7 @@ fn make_line<J: Naming, M: Publisher<J>>(
             0 => cluster_line(board, dirs.len(), line),
             _ => dir_line(alloc, board, dirs[index - 1], field, line),
         },
+        CommandReply::Step(reply) => step_line(*reply, line),
     }
 }
 

@@ -3,6 +3,7 @@ ghost use Rattle.std.specs.Prelude.{◌≡◌, length};
 ghost use Rattle.script_board.specs.Board.{BoardData};
 ghost use Rattle.script_session.specs.Reply.{IsPrintable, reply_lines};
 
+use export_protocol::Reply;
 use export_rounds::Outcome;
 use mds_types::{Dir, Order};
 use tree_parts::{Part, PlanPart};
@@ -20,6 +21,8 @@ pub enum CommandReply {
     Move(Vec<Order>, Vec<Outcome>),
     /// A report on these directories.
     Stat(Vec<Dir>),
+    /// The reply to a step of exports or requests.
+    Step(Reply),
 }
 
 impl CommandReply {
@@ -33,6 +36,7 @@ impl CommandReply {
             CommandReply::Plan(parts) => parts.len() + 1,
             CommandReply::Move(orders, _) => orders.len() + 1,
             CommandReply::Stat(dirs) => dirs.len() + 1,
+            CommandReply::Step(_) => 1,
         }
     }
 }

@@ -320,8 +320,8 @@ impl<'r, J: Naming + Send + Sync, M: Publisher<J> + Send, R: Threads + Wait + Sy
     }
 
     /// Answers a line: carries out what it asks for, writes what that prints, and publishes the map if the line is
-    /// accepted. It says whether it is. Where the fields of a line that asks for a cost find no room, it is refused
-    /// whatever they say.
+    /// accepted. It says whether it is. Where the fields of a line that asks for a cost or an export find no room, it
+    /// is refused whatever they say.
     pub fn answer<W: Write>(
         &mut self,
         alloc: Global,

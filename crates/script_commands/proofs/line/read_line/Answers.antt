@@ -8,3 +8,6 @@ tops-requires c = grind (arith, rest_plain c.args.line.now c.in-Some.word.now (f
 
 pub find_command-requires-clause-plain : goal.find_command-requires-clause-plain
 find_command-requires-clause-plain c = grind (arith, rest_plain c.args.line.now c.in-Some.word.now (fields c.in-Some.rest.now))
+
+pub start_export-requires : goal.start_export-requires
+start_export-requires c = grind (arith, rest_plain c.args.line.now c.in-Some.word.now (fields c.in-Some.rest.now))
