@@ -7,7 +7,8 @@
 CONF is a ceph.conf, and the client is admin. TREE is 12x20 (/w/p00/d00 .. /w/p11/d19), a number of children of one directory
 (400: /volumes/c000 ..), or @FILE with a JSON list of [path, weight]. Weights are by Zipf's law over a fixed shuffle. RATE is
 operations a second in all; what falls more than a second behind is left out. With MOVE half of them go to one project (of a
-flat tree, to 20 children in a row), another one every MOVE seconds. Needs python3-cephfs.
+flat tree, to 20 children in a row), another one every MOVE seconds: one of all, by chance, or with MOVE/N the first N in turn.
+Needs python3-cephfs.
 """
 import collections
 import json
@@ -60,11 +61,17 @@ def make(conf, word):
     print(len(paths), "directories with load")
 
 
+def spot_of(now, move, spots):
+    """The project that has half of the load. `move` is SECONDS, or SECONDS/N for the first N in turn."""
+    seconds, _, turns = move.partition("/")
+    number = int(now / float(seconds))
+    return number % int(turns) if turns else random.Random(number).randrange(spots)
+
+
 def work(conf, word, end, rate, move, number, to):
     client = connect(conf)
     paths, weights, per = tree(word)
     rng = random.Random(number)
-    spots = len(paths) // per
     start, done, serial, late = time.time(), 0, 0, 0
     counts, errors, bucket = collections.Counter(), 0, int(start) // BUCKET
     while time.time() < end:
@@ -76,8 +83,8 @@ def work(conf, word, end, rate, move, number, to):
             late -= wait
             start -= wait
         chosen = rng.choices(paths, weights, k=16)
-        if move:
-            spot = random.Random(int(now / move)).randrange(spots)
+        if float(move.partition("/")[0]):
+            spot = spot_of(now, move, len(paths) // per)
             chosen[:8] = rng.choices(paths[spot * per:(spot + 1) * per], k=8)
         for path in chosen:
             serial += 1
@@ -96,7 +103,7 @@ def work(conf, word, end, rate, move, number, to):
     client.unmount()
 
 
-def run(conf, word, seconds, rate, out, move=0.0):
+def run(conf, word, seconds, rate, out, move="0"):
     results = multiprocessing.Queue()
     end = time.time() + seconds
     workers = [multiprocessing.Process(target=work, args=(conf, word, end, rate / PROCESSES, move, it, results), daemon=True)
@@ -121,4 +128,4 @@ if __name__ == "__main__":
     if sys.argv[2] == "make":
         make(sys.argv[1], sys.argv[3])
     else:
-        run(sys.argv[1], sys.argv[3], float(sys.argv[4]), float(sys.argv[5]), sys.argv[6], *map(float, sys.argv[7:]))
+        run(sys.argv[1], sys.argv[3], float(sys.argv[4]), float(sys.argv[5]), sys.argv[6], *sys.argv[7:])
