@@ -1,6 +1,8 @@
 //! Writes blanks and a zero over bare `-inf`, `inf` and `nan`, which Ceph prints where JSON has no number.
 ghost use Rattle.std.specs.Prelude.{◌≡◌, ◌≤◌, length};
 
+use memchr::memmem::find;
+
 /// Where a byte of JSON is.
 #[derive(Clone, Copy)]
 pub(crate) enum Place {
@@ -51,31 +53,17 @@ fn zero_over(word: &mut [u8])
     }
 }
 
-/// Whether these bytes are `inf` or `nan`.
-#[inline(always)]
-fn is_word(a: u8, b: u8, c: u8) -> bool {
-    let is_inf = (a == b'i') & (b == b'n') & (c == b'f');
-    let is_nan = (a == b'n') & (b == b'a') & (c == b'n');
-    is_inf | is_nan
-}
-
-/// Whether `inf` or `nan` occurs anywhere, in strings or not. All places are looked
-/// at, which a processor does for many at once.
-fn may_have_words(text: &[u8]) -> bool {
-    let mut found = false;
-    for last in 2..text.len() {
-        found |= is_word(text[last - 2], text[last - 1], text[last]);
-    }
-    found
+/// Whether `inf` or `nan` occurs anywhere, in strings or not.
+pub(crate) fn may_have_words(text: &[u8]) -> bool {
+    [b"inf", b"nan"]
+        .iter()
+        .any(|word| find(text, word.as_slice()).is_some())
 }
 
 /// Writes over each bare word outside of strings. No byte is moved, so lines and columns stay.
 pub fn write_over_bare_words(text: &mut [u8])
     ensures { length text.new ≡ length text.old }
 {
-    if !may_have_words(text) {
-        return;
-    }
     let mut place = Place::Bare;
     for at in 0..text.len() {
         let byte = text[at];

@@ -3,9 +3,11 @@ ghost use Rattle.std.specs.Prelude.{IfErr, IfOk};
 ghost use Rattle.ceph_dumps.specs.Told.{IsToldOf};
 ghost use Rattle.ceph_dumps.specs.WideBytes.{wide};
 
+use crate::bare_words::may_have_words;
 use crate::dump_error::DumpError;
 use crate::key_path::{column_of, key_path, line_begin};
 use crate::members::Whole;
+use crate::wide_bytes::greatest;
 use crate::{widened, write_over_bare_words};
 use serde::DeserializeOwned;
 use std::alloc::{AllocError, Global};
@@ -51,6 +53,11 @@ fn placed(alloc: Global, bytes: &[u8], error: &serde_json::Error) -> Result<Dump
     told(alloc, &text, error.line(), error.column(), reason)
 }
 
+/// Whether the bytes are JSON as they are: below 0x80, and without a bare word.
+fn is_plain(bytes: &[u8]) -> bool {
+    greatest(bytes) < 128 && !may_have_words(bytes)
+}
+
 /// The text of a dump, in UTF-8 and without bare words.
 fn text_of(alloc: Global, bytes: &[u8]) -> Result<Vec<u8>, AllocError> {
     let mut text = widened(alloc, bytes)?;
@@ -58,13 +65,23 @@ fn text_of(alloc: Global, bytes: &[u8]) -> Result<Vec<u8>, AllocError> {
     Ok(text)
 }
 
-/// What a dump says. Errors give the place in the dump's own bytes.
-pub(crate) fn read_json<T: DeserializeOwned>(alloc: Global, bytes: &[u8]) -> Result<T, DumpError>
+/// What a text says, which has a place for each place of the dump's own bytes.
+fn read_text<T: DeserializeOwned>(alloc: Global, text: &[u8], bytes: &[u8]) -> Result<T, DumpError>
     ensures { IfErr result (IsToldOf (wide bytes.now)) }
 {
-    let text = text_of(alloc, bytes)?;
-    match serde_json::from_slice(alloc, text.as_slice()) {
+    match serde_json::from_slice(alloc, text) {
         Ok(Whole(value)) => Ok(value),
         Err(error) => Err(placed(alloc, bytes, &error)?),
     }
+}
+
+/// What a dump says. Errors give the place in the dump's own bytes. A copy is made only where bytes have to change.
+pub(crate) fn read_json<T: DeserializeOwned>(alloc: Global, bytes: &[u8]) -> Result<T, DumpError>
+    ensures { IfErr result (IsToldOf (wide bytes.now)) }
+{
+    if is_plain(bytes) {
+        return read_text(alloc, bytes, bytes);
+    }
+    let text = text_of(alloc, bytes)?;
+    read_text(alloc, text.as_slice(), bytes)
 }

@@ -18,7 +18,7 @@ fn push_wide(text: &mut Vec<u8>, byte: u8) -> Result<(), AllocError>
 }
 
 /// The greatest of the bytes, or 0. The whole is looked at, which a processor does for many bytes at once.
-fn greatest(bytes: &[u8]) -> u8
+pub(crate) fn greatest(bytes: &[u8]) -> u8
     ensures { All (λ byte. byte ≤ result) bytes.now }
 {
     let mut greatest = 0;
