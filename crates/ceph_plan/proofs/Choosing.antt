@@ -12,7 +12,7 @@ use Rattle.ceph_plan.specs.declared.choice.Wanted.{Wanted}
 use Rattle.ceph_plan.specs.declared.for_hours.HoursProposal.{HoursProposal}
 use Rattle.ceph_plan.specs.declared.hours.Hour.{Hour}
 use Rattle.ceph_plan.specs.declared.proposal.OwnPins.{OwnPins}
-use Rattle.ceph_plan.specs.ChosenHours.{AreChosenHours, AreJudged, AreNext, AreMarked, AreThose, CanChoose, HasHour, IsLittle, IsMoreUneven, IsNextToCome, IsNextHour, IsPlanFor, MayBeChosen, MayCome, load_in_hour}
+use Rattle.ceph_plan.specs.ChosenHours.{AreChosenHours, AreJudged, AreNext, AreMarked, AreThose, CanChoose, HasHour, IsLittle, IsMoreUneven, IsNextToCome, IsNextHour, IsPlanFor, MayBeChosen, MayCome, judged, load_in_hour}
 use Rattle.ceph_plan.specs.HourPlans.{IsHoursProposal}
 use Rattle.ceph_plan.specs.Packing.{AreLoads, greatest_of, load_in, packed_rank}
 use Rattle.ceph_plan.proofs.Bounds.{greatest-same}
@@ -248,7 +248,7 @@ plan-judged ranks hours rows own bounds kept plan table greatest can size loads 
 
 -- a plan for those chosen
 pub plan-for : (ranks : ℕ) (hours : List Hour) (rows : List ProblemRow) (wanted : Wanted) (own : List OwnPins) (chosen weights : List ℕ) (those : List Hour) (plan : HoursProposal)
-    → AreThose hours chosen those → weights ≡ replicate (length chosen) 100 → IsHoursProposal ranks those rows weights wanted own plan
+    → AreThose hours chosen those → weights ≡ replicate (length chosen) 100 → IsHoursProposal ranks those rows weights (judged wanted) own plan
     → IsPlanFor ranks hours rows wanted own chosen plan
 plan-for ranks hours rows wanted own chosen weights those plan are full of = record {
   those = those;

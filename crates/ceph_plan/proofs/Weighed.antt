@@ -10,7 +10,7 @@ use Rattle.mds_types.specs.RankSet.{rank_count}
 use Rattle.ceph_plan.specs.declared.hours.Hour.{Hour}
 use Rattle.ceph_plan.specs.declared.plan.PackedDivision.{PackedDivision}
 use Rattle.ceph_plan.specs.declared.plan.Size.{Size}
-use Rattle.ceph_plan.specs.Choice.{AreWeighed, HasDivision, HasHeavyDivision, IsWeighed, fair_share, gap, size_of, total_of_rows}
+use Rattle.ceph_plan.specs.Choice.{AreWeighed, HasDivision, HasHeavyDivision, IsTriedCount, IsWeighed, fair_share, gap, size_of, total_of_rows}
 use Rattle.ceph_plan.specs.Plans.{IsDivided, no_cap}
 
 pub get_kept : {X : Type 0} (xs : List X) (x y : X) (k : ℕ) → slice_get xs k ≡ Some y → slice_get (xs ++ x ∷ []) k ≡ Some y
@@ -63,9 +63,7 @@ weighed_kept ranks hours rows plans more parts is = record {
 
 -- one more plan, of this number of parts
 pub weighed_more : (ranks : ℕ) (hours : List Hour) (rows : List ProblemRow) (plans : List PackedDivision) (n next cap : ℕ) (more : PackedDivision) → AreWeighed ranks hours rows plans n
-    → next ≡ n + gap n + 1 → IsDivided ranks hours rows n cap more
-    → HasDivision ranks hours rows (plans ++ more ∷ []) n no_cap
-    ⊎ (HasHeavyDivision ranks hours rows (plans ++ more ∷ []) n × HasDivision ranks hours rows (plans ++ more ∷ []) n (fair_share (total_of_rows rows) n))
+    → (n < next) × (next ≤ n + gap n + 1) → IsDivided ranks hours rows n cap more → IsTriedCount ranks hours rows (plans ++ more ∷ []) n
     → AreWeighed ranks hours rows (plans ++ more ∷ []) next
 weighed_more ranks hours rows plans n next cap more before step is of = record {
   all = λ k plan there.
@@ -78,12 +76,24 @@ weighed_more ranks hours rows plans n next cap more before step is of = record {
       (cases_lt parts n);
 }
   where
-    below-next : (parts n over next : ℕ) → parts < next → next ≡ n + over + 1 → parts ≤ n + over
-    below-next parts n over next high step = omega (arith, high, step)
+    below-next : (parts n over next : ℕ) → parts < next → (n < next) × (next ≤ n + over + 1) → parts ≤ n + over
+    below-next parts n over next high step = omega (arith, high, step.1)
 
 has_last : (ranks : ℕ) (hours : List Hour) (rows : List ProblemRow) (plans : List PackedDivision) (more : PackedDivision) (n cap : ℕ) → IsDivided ranks hours rows n cap more
     → HasDivision ranks hours rows (plans ++ more ∷ []) n cap
 has_last ranks hours rows plans more n cap of = record { k = length plans; divided = more; there = get_last plans more; of = of }
+
+-- the number of parts of the plan that is added is tried
+pub tried_now : (ranks : ℕ) (hours : List Hour) (rows : List ProblemRow) (plans : List PackedDivision) (heavy : Bool) (n heat : ℕ) (size : Size) (more : PackedDivision)
+    → heat ≡ total_of_rows rows → size ≡ size_of heat n heavy → IsDivided ranks hours rows size.parts size.cap more
+    → (heavy ≡ true → HasHeavyDivision ranks hours rows plans n) → IsTriedCount ranks hours rows (plans ++ more ∷ []) n
+tried_now ranks hours rows plans false n heat size more heat_is sized of flag =
+    inl (has_last ranks hours rows plans more n no_cap (subst (λ (s : Size). IsDivided ranks hours rows s.parts s.cap more) sized of))
+tried_now ranks hours rows plans true n heat size more heat_is sized of flag =
+    let capped : IsDivided ranks hours rows n (fair_share (total_of_rows rows) n) more =
+    subst (λ (h : ℕ). IsDivided ranks hours rows n (fair_share h n) more) heat_is
+    (subst (λ (s : Size). IsDivided ranks hours rows s.parts s.cap more) sized of) in
+    inr (heavy_kept ranks hours rows plans more n n (le_refl n) (flag refl), has_last ranks hours rows plans more n (fair_share (total_of_rows rows) n) capped)
 
 -- what was weighed so far, and that a plan was heavy where the flag is set
 pub record IsSoFar (ranks : ℕ) (hours : List Hour) (rows : List ProblemRow) (plans : List PackedDivision) (heavy : Bool) (n : ℕ) : Type 0 where
@@ -92,18 +102,14 @@ pub record IsSoFar (ranks : ℕ) (hours : List Hour) (rows : List ProblemRow) (p
 
 -- a plan of the size that is to be weighed is added
 pub more-so_far : (ranks : ℕ) (hours : List Hour) (rows : List ProblemRow) (plans : List PackedDivision) (heavy now : Bool) (n next heat : ℕ) (size : Size) (more : PackedDivision)
-    → heat ≡ total_of_rows rows → size ≡ size_of heat n heavy → IsDivided ranks hours rows size.parts size.cap more → next ≡ n + gap n + 1
+    → heat ≡ total_of_rows rows → size ≡ size_of heat n heavy → IsDivided ranks hours rows size.parts size.cap more → (n < next) × (next ≤ n + gap n + 1)
     → now ≡ (heavy || more.is_heavy) → IsSoFar ranks hours rows plans heavy n → IsSoFar ranks hours rows (plans ++ more ∷ []) now next
 more-so_far ranks hours rows plans false now n next heat size more heat_is sized of step now_is before =
     let plain : IsDivided ranks hours rows n no_cap more = subst (λ (s : Size). IsDivided ranks hours rows s.parts s.cap more) sized of in
-    let less : n < next = later n (gap n) next step in
     record {
-      weighed = weighed_more ranks hours rows plans n next no_cap more before.weighed step plain (inl (has_last ranks hours rows plans more n no_cap plain));
-      flag = λ set. record { fewer = n; less = less; k = length plans; divided = more; there = get_last plans more; of = plain; heavy = sym now_is ∙ set };
+      weighed = weighed_more ranks hours rows plans n next no_cap more before.weighed step plain (tried_now ranks hours rows plans false n heat size more heat_is sized of before.flag);
+      flag = λ set. record { fewer = n; less = step.0; k = length plans; divided = more; there = get_last plans more; of = plain; heavy = sym now_is ∙ set };
     }
-  where
-    later : (n over next : ℕ) → next ≡ n + over + 1 → n < next
-    later n over next step = omega (arith, step)
 more-so_far ranks hours rows plans true now n next heat size more heat_is sized of step now_is before =
     let heavy : HasHeavyDivision ranks hours rows plans n = before.flag refl in
     let capped : IsDivided ranks hours rows n (fair_share (total_of_rows rows) n) more =
@@ -111,12 +117,12 @@ more-so_far ranks hours rows plans true now n next heat size more heat_is sized 
     (subst (λ (s : Size). IsDivided ranks hours rows s.parts s.cap more) sized of) in
     record {
       weighed = weighed_more ranks hours rows plans n next (fair_share (total_of_rows rows) n) more before.weighed step capped
-          (inr (heavy_kept ranks hours rows plans more n n (le_refl n) heavy, has_last ranks hours rows plans more n (fair_share (total_of_rows rows) n) capped));
-      flag = λ set. heavy_kept ranks hours rows plans more n next (later n (gap n) next step) heavy;
+          (tried_now ranks hours rows plans true n heat size more heat_is sized of before.flag);
+      flag = λ set. heavy_kept ranks hours rows plans more n next (later n next step.0) heavy;
     }
   where
-    later : (n over next : ℕ) → next ≡ n + over + 1 → n ≤ next
-    later n over next step = omega (arith, step)
+    later : (n next : ℕ) → n < next → n ≤ next
+    later n next less = omega (arith, less)
 
 -- what is weighed below a number is so below a smaller one
 pub weighed_fewer : (ranks : ℕ) (hours : List Hour) (rows : List ProblemRow) (plans : List PackedDivision) (n m : ℕ) → m ≤ n → AreWeighed ranks hours rows plans n
@@ -143,5 +149,10 @@ none_weighed ranks hours rows = record {
 pub none-so_far : (ranks : ℕ) (hours : List Hour) (rows : List ProblemRow) → IsSoFar ranks hours rows [] false (rank_count ranks)
 none-so_far ranks hours rows = record { weighed = none_weighed ranks hours rows; flag = λ set. absurd (both_ways false refl set) }
 
-pub later-count : (first n over next : ℕ) → first ≤ n → next ≡ n + over + 1 → first ≤ next
-later-count first n over next from step = omega (arith, from, step)
+pub later-count : (first n next : ℕ) → first ≤ n → n < next → first ≤ next
+later-count first n next from less = omega (arith, from, less)
+
+-- once the last number is passed, it is the one that was tried: none below it leads past it
+pub at-last : (n last next : ℕ) → n ≤ last → (n < last → next ≤ last) → last < next → n ≡ last
+at-last n last next within until past =
+    ⊎_elim (λ (less : n < last). let none : ⊥ = omega (arith, until less, past) in absurd none) (λ (high : last ≤ n). omega (arith, within, high)) (cases_lt n last)

@@ -109,16 +109,21 @@ pub record HasHeavyDivision (ranks : ℕ) (hours : List Hour) (rows : List Probl
   pub of : IsDivided ranks hours rows fewer no_cap divided
   pub heavy : divided.is_heavy ≡ true
 
--- a number of parts is weighed, or one below it with no more than the gap between. Where one row was as hot as the
--- hottest part before, rows are capped at a fair share
+-- a number of parts is tried: one of the divisions is into at most that many. Where one row was as hot as the hottest
+-- part before, rows are capped at a fair share
+abbrev pub IsTriedCount : ℕ → List Hour → List ProblemRow → List PackedDivision → ℕ → Type 0
+IsTriedCount ranks hours rows divisions parts =
+    HasDivision ranks hours rows divisions parts no_cap
+    ⊎ (HasHeavyDivision ranks hours rows divisions parts
+    × HasDivision ranks hours rows divisions parts (fair_share (total_of_rows rows) parts))
+
+-- a number of parts is tried, or one below it with no more than the gap between
 pub record IsWeighed (ranks : ℕ) (hours : List Hour) (rows : List ProblemRow) (divisions : List PackedDivision)
     (parts : ℕ) : Type 0 where
   pub tried : ℕ
   pub low : tried ≤ parts
   pub near : parts ≤ tried + gap tried
-  pub of : HasDivision ranks hours rows divisions tried no_cap
-      ⊎ (HasHeavyDivision ranks hours rows divisions tried
-      × HasDivision ranks hours rows divisions tried (fair_share (total_of_rows rows) tried))
+  pub of : IsTriedCount ranks hours rows divisions tried
 
 -- each is a division of the rows
 abbrev pub AreDivisions : ℕ → List Hour → List ProblemRow → List PackedDivision → Type 0
@@ -139,10 +144,12 @@ pub record IsDividedOnce (ranks : ℕ) (hours : List Hour) (rows : List ProblemR
   pub only : divisions ≡ divided ∷ []
   pub of : IsDivided ranks hours rows parts no_cap divided
 
--- the divisions that are tried: into each number of parts up to the most, or into the number that is asked for
+-- the divisions that are tried: into numbers of parts up to the most, with the last, or into the number that is asked
+-- for
 abbrev pub AreTried : ℕ → List Hour → List ProblemRow → PartCount → List PackedDivision → Type 0
 AreTried ranks hours rows (Auto most) divisions =
     AreWeighed ranks hours rows divisions (max most (rank_count ranks) + 1) × (0 < length divisions)
+    × IsTriedCount ranks hours rows divisions (max most (rank_count ranks))
 AreTried ranks hours rows (AtMost parts) divisions = IsDividedOnce ranks hours rows parts divisions
 
 -- what is planned: rows that can be, and a plan of them, which is taken of all that are tried

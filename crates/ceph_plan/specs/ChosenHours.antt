@@ -4,9 +4,12 @@ use Rattle.std.specs.Prelude.{slice_index, slice_index_or, take, true}
 use Rattle.mds_types.specs.declared.problem.ProblemRow.{ProblemRow}
 use Rattle.mds_types.specs.RankSet.{has_rank}
 use Rattle.mds_types.specs.Sums.{count_below, sum_below}
+use Rattle.ceph_plan.specs.declared.choice.PartCount.{PartCount}
+use Rattle.ceph_plan.specs.declared.choice.PartCount.TheVariants.{AtMost, Auto}
 use Rattle.ceph_plan.specs.declared.choice.Wanted.{Wanted}
 use Rattle.ceph_plan.specs.declared.for_hours.HoursProposal.{HoursProposal}
 use Rattle.ceph_plan.specs.declared.for_hours.TheConstants.{HOUR_LIMIT}
+use Rattle.ceph_plan.specs.declared.hour_choice.TheConstants.{JUDGED_PARTS}
 use Rattle.ceph_plan.specs.declared.hours.Hour.{Hour}
 use Rattle.ceph_plan.specs.declared.hours_error.HoursError.{HoursError}
 use Rattle.ceph_plan.specs.declared.hours_error.HoursError.TheVariants as hours_cause
@@ -51,14 +54,23 @@ pub record AreThose (hours : List Hour) (chosen : List ℕ) (those : List Hour) 
   pub heats : (k : ℕ) → k < length chosen → heats_in those k ≡ heats_in hours (slice_index chosen k)
   pub pinned : (k : ℕ) → k < length chosen → pinned_in those k ≡ pinned_in hours (slice_index chosen k)
 
--- a plan for the chosen hours, each of which counts in full
+-- the plan that hours are judged by divides the directories once: into at most as many parts as are asked for, or into
+-- at most 512 where any number may be
+abbrev pub judged_parts : PartCount → PartCount
+judged_parts (Auto most) = AtMost JUDGED_PARTS
+judged_parts (AtMost parts) = AtMost parts
+
+abbrev pub judged : Wanted → Wanted
+judged wanted = record wanted { parts = judged_parts wanted.parts }
+
+-- the plan for the chosen hours that the others are judged by: each of these counts in full
 pub record IsPlanFor (ranks : ℕ) (hours : List Hour) (rows : List ProblemRow) (wanted : Wanted) (own : List OwnPins)
     (chosen : List ℕ) (found : HoursProposal) : Type 0 where
   pub those : List Hour
   pub are : AreThose hours chosen those
   pub weights : List ℕ
   pub full : (k : ℕ) → k < length chosen → slice_index weights k ≡ 100
-  pub of : IsHoursProposal ranks those rows weights wanted own found
+  pub of : IsHoursProposal ranks those rows weights (judged wanted) own found
 
 -- the load of the hottest rank in hour h, where that plan is carried out
 abbrev pub hottest_in : ℕ → List Hour → List ProblemRow → HoursProposal → ℕ → ℕ
@@ -170,7 +182,7 @@ pub record IsSomeRefusal (ranks : ℕ) (hours : List Hour) (rows : List ProblemR
   pub those : List Hour
   pub are : AreThose hours chosen those
   pub weights : List ℕ
-  pub why : IsHoursRefusal ranks those rows weights wanted own error
+  pub why : IsHoursRefusal ranks those rows weights (judged wanted) own error
 
 -- why no hours are chosen: without rank 0 there is no plan; none can be chosen; out of memory; or there is no plan for
 -- some of them

@@ -4,8 +4,8 @@ ghost use Rattle.std.specs.Prelude.{◌≡◌, ◌<◌, ◌≤◌, ◌+◌, ◌�
 ghost use Rattle.mds_types.specs.RankSet.{rank_count};
 ghost use Rattle.ceph_plan.specs.Balance.{allowed};
 ghost use Rattle.ceph_plan.specs.Choice.{AreCool, AreTried, AreWeighed, IsChosen, IsDividedOnce, IsFewer, IsPlace};
-ghost use Rattle.ceph_plan.specs.Choice.{IsLimitedChoice, IsPlanChoice, IsTaken, even_at, gap, greatest_in, moved_in};
-ghost use Rattle.ceph_plan.specs.Choice.{packings_at, part_count_at, size_of};
+ghost use Rattle.ceph_plan.specs.Choice.{IsLimitedChoice, IsPlanChoice, IsTaken, IsTriedCount, even_at, gap};
+ghost use Rattle.ceph_plan.specs.Choice.{greatest_in, moved_in, packings_at, part_count_at, size_of};
 ghost use Rattle.ceph_plan.specs.Packing.{HaveHeats};
 ghost use Rattle.ceph_plan.specs.Refusals.{IsCountRefusal, IsPartsRefusal, IsPlanRefusal};
 
@@ -169,16 +169,20 @@ fn size_for(parts: u32, heat: u64, is_heavy: bool) -> Size
     Size { parts, cap }
 }
 
-/// The number of parts that is tried after this one: the next up to 64, and then numbers that grow by a quarter.
-fn next_count(parts: u32) -> u32
+/// The number of parts that is tried after this one: the next up to 64, and then numbers that grow by a quarter, but
+/// the last one isn't passed over.
+fn next_count(parts: u32, last: u32) -> u32
     requires { parts ≤ 65536 }
-    ensures { result ≡ parts + gap parts + 1 }
+    ensures more { parts < result }
+    ensures near { result ≤ parts + gap parts + 1 }
+    ensures last { parts < last → result ≤ last }
 {
-    if parts < 64 {
+    let next = if parts < 64 {
         parts + 1
     } else {
         parts + parts / 4 + 1
-    }
+    };
+    if parts < last { next.min(last) } else { next }
 }
 
 /// A division into each number of parts that is tried, from that of the ranks to the most, as results don't fall
@@ -186,6 +190,8 @@ fn next_count(parts: u32) -> u32
 fn weighed(alloc: Global, of: &Plannable<'_>, most: u16) -> Result<Vec<PackedDivision>, PlanError>
     ensures weighed { IfOk result (λ divisions. AreWeighed of.now.ranks of.now.hours.now of.now.rows.now
         divisions.items (max most (rank_count of.now.ranks) + 1)) }
+    ensures last { IfOk result (λ divisions. IsTriedCount of.now.ranks of.now.hours.now of.now.rows.now divisions.items
+        (max most (rank_count of.now.ranks))) }
     ensures some { IfOk result (λ divisions. 0 < length divisions.items) }
     ensures refused { IfErr result (λ error. error ≡ PlanError.Memory) }
 {
@@ -199,7 +205,7 @@ fn weighed(alloc: Global, of: &Plannable<'_>, most: u16) -> Result<Vec<PackedDiv
         let divided = divide(alloc, of, size)?;
         is_heavy |= divided.is_heavy;
         divisions.push(divided)?;
-        parts = next_count(parts);
+        parts = next_count(parts, last);
     }
     Ok(divisions)
 }

@@ -3,28 +3,29 @@ ghost use Rattle.std.specs.Prelude.{◌≡◌, ◌<◌, ℕ, List, length, IfOk}
 ghost use Rattle.ceph_plan.specs.Balance.{HaveRanks};
 
 use crate::bound::has_number;
-use crate::loads::{greatest_loads, loads};
+use crate::loads::loads;
 use crate::order::PartHeat;
 use crate::rank_choice::PartAmounts;
-use crate::swaps::{Ground, Swap, best_swap, hottest_hour, load_in, parts_at};
+use crate::swaps::{Ground, Swap, best_swap, hottest_hour, load_in, parts_at, reload, worst_in};
 use mds_types::{Rank, RankSet};
 use std::alloc::{AllocError, Global};
 
 /// At most this many exchanges are tried.
 const MOST_EXCHANGES: u32 = 64;
 
-/// The number of the most loaded rank of the set, and that of the least loaded one.
-fn ends(loads: &[u64], ranks: RankSet) -> (usize, usize)
-    requires { length loads.now ≡ 64 }
-    ensures most { result.0 < 64 }
-    ensures least { result.1 < 64 }
-{
+/// The number of the most loaded rank of the set, and that of the least loaded one, each in its hottest hour.
+fn ends(table: &[u64], hours: usize, ranks: RankSet) -> (usize, usize) {
     let (mut most, mut least) = (0, 0);
+    let mut high = worst_in(table, hours, 0);
+    let mut low = high;
     for number in 1..64u8 {
         if has_number(ranks, number) {
             let at = usize::from(number);
-            most = if loads[at] > loads[most] { at } else { most };
-            least = if loads[at] < loads[least] { at } else { least };
+            let load = worst_in(table, hours, at);
+            most = if load > high { at } else { most };
+            least = if load < low { at } else { least };
+            high = high.max(load);
+            low = low.min(load);
         }
     }
     (most, least)
@@ -82,8 +83,8 @@ fn closest_swap(
         let change = one.heat.saturating_sub(other.heat);
         if change > 0 && change < gap {
             return Ok(Some(Swap {
-                one: one.part.0,
-                other: other.part.0,
+                going: (one.part.0, ground.parts.root),
+                coming: (other.part.0, ground.parts.root),
                 to: least,
                 greatest: here,
             }));
@@ -92,20 +93,40 @@ fn closest_swap(
     Ok(None)
 }
 
-/// Sends a part of the most loaded rank to another one, where a part may come back for it, so that both are loaded less
-/// than the first was. Whether there is one.
-fn exchange(alloc: Global, parts: &PartAmounts<'_>, rank: &mut [Rank]) -> Result<bool, AllocError>
+/// Sends a part from one rank to another, as `send` does, and its heat in the table of loads.
+fn carry(
+    parts: &PartAmounts<'_>,
+    table: &mut [u64],
+    rank: &mut [Rank],
+    part: u32,
+    from: usize,
+    to: usize,
+)
+    requires ranks { HaveRanks parts.now.ranks parts.now.heats.now parts.now.root rank.old }
+    ensures { HaveRanks parts.now.ranks parts.now.heats.now parts.now.root rank.new }
+{
+    send(rank, parts.root, parts.ranks, part, to);
+    reload(table, parts, part, from, to);
+}
+
+/// Sends parts of the most loaded rank to another one, where parts may come back for them, so that both are loaded less
+/// than the first was. Whether there are any. The table has the loads.
+fn exchange(
+    alloc: Global,
+    parts: &PartAmounts<'_>,
+    table: &mut [u64],
+    rank: &mut [Rank],
+) -> Result<bool, AllocError>
     requires ranks { HaveRanks parts.now.ranks parts.now.heats.now parts.now.root rank.old }
     ensures { HaveRanks parts.now.ranks parts.now.heats.now parts.now.root rank.new }
 {
     let hours = parts.hours.len();
-    let table = loads(alloc, parts.hours, rank)?;
-    let (most, least) = ends(&greatest_loads(alloc, &table, hours)?, parts.ranks);
+    let (most, least) = ends(table, hours, parts.ranks);
     let ground = Ground {
-        parts,
-        table: &table,
+        parts: &*parts,
+        table: &*table,
         most,
-        hour: hottest_hour(&table, hours, most),
+        hour: hottest_hour(table, hours, most),
     };
     let swap = if hours == 1 {
         closest_swap(alloc, &ground, rank, least)?
@@ -115,8 +136,10 @@ fn exchange(alloc: Global, parts: &PartAmounts<'_>, rank: &mut [Rank]) -> Result
     let Some(swap) = swap else {
         return Ok(false);
     };
-    send(rank, parts.root, parts.ranks, swap.one, swap.to);
-    send(rank, parts.root, parts.ranks, swap.other, most);
+    carry(parts, table, rank, swap.going.0, most, swap.to);
+    carry(parts, table, rank, swap.going.1, most, swap.to);
+    carry(parts, table, rank, swap.coming.0, swap.to, most);
+    carry(parts, table, rank, swap.coming.1, swap.to, most);
     Ok(true)
 }
 
@@ -129,9 +152,10 @@ pub fn exchanged(
     requires ranks { HaveRanks parts.now.ranks parts.now.heats.now parts.now.root rank.now }
     ensures { IfOk result (λ found. HaveRanks parts.now.ranks parts.now.heats.now parts.now.root found.items) }
 {
+    let mut table = loads(alloc, parts.hours, rank)?;
     let mut found = rank.to_vec(alloc)?;
     for _ in 0..MOST_EXCHANGES {
-        if !exchange(alloc, parts, &mut found)? {
+        if !exchange(alloc, parts, &mut table, &mut found)? {
             return Ok(found);
         }
     }

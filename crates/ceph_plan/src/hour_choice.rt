@@ -7,12 +7,12 @@ ghost use Rattle.ceph_plan.specs.Balance.{allowed};
 ghost use Rattle.ceph_plan.specs.ChosenHours.{AreChosenHours, AreForChoice, AreMarked, AreThose, CanChoose};
 ghost use Rattle.ceph_plan.specs.ChosenHours.{HasHour, IsChoiceFault, IsChoiceRefusal, IsLittle, IsMoreUneven};
 ghost use Rattle.ceph_plan.specs.ChosenHours.{IsNextHour, IsNextToCome, IsSomeRefusal, MayBeChosen, MayCome};
-ghost use Rattle.ceph_plan.specs.ChosenHours.{load_at, load_in_hour};
+ghost use Rattle.ceph_plan.specs.ChosenHours.{judged, judged_parts, load_at, load_in_hour};
 ghost use Rattle.ceph_plan.specs.HourPlans.{IsCountedHour};
 ghost use Rattle.ceph_plan.specs.Packing.{AreHours, greatest_of};
 
 use crate::bound::{has_number, sum_of, total};
-use crate::choice::Wanted;
+use crate::choice::{PartCount, Wanted};
 use crate::for_hours::{HOUR_LIMIT, planned_loads, propose_for};
 use crate::hours::Hour;
 use crate::hours_error::HoursError;
@@ -232,6 +232,29 @@ fn most_uneven(of: &Choosing<'_>, greatest: &[u64], chosen: &[usize]) -> usize
     best
 }
 
+/// Into how many parts the directories are divided for the plan that hours are judged by, if any number may be.
+pub const JUDGED_PARTS: u16 = 512;
+
+/// Into how many parts the directories are divided for the plan that hours are judged by.
+fn judged_parts(parts: PartCount) -> PartCount
+    ensures { result ≡ judged_parts parts }
+{
+    match parts {
+        PartCount::Auto(_) => PartCount::AtMost(JUDGED_PARTS),
+        PartCount::AtMost(most) => PartCount::AtMost(most),
+    }
+}
+
+/// What is wanted of the plan that hours are judged by.
+fn judged(wanted: Wanted) -> Wanted
+    ensures { result ≡ judged wanted }
+{
+    Wanted {
+        parts: judged_parts(wanted.parts),
+        ..wanted
+    }
+}
+
 /// The hour in which a plan for the chosen ones is most uneven, and by more than is allowed. How many hours there are,
 /// if there is none.
 fn next_hour(alloc: Global, of: &Choosing<'_>, chosen: &[usize]) -> Result<usize, PlanError>
@@ -245,7 +268,7 @@ fn next_hour(alloc: Global, of: &Choosing<'_>, chosen: &[usize]) -> Result<usize
 {
     let those = those(alloc, of.hours, chosen)?;
     let weights = vec![in alloc; 100u8; chosen.len()]?;
-    let (rows, wanted, ranks, own) = (of.rows, of.wanted, of.ranks, of.own);
+    let (rows, wanted, ranks, own) = (of.rows, judged(of.wanted), of.ranks, of.own);
     let found = propose_for(alloc, rows, wanted, &those, &weights, ranks, own)?;
     let plan = &found.proposal.plan;
     let loads = planned_loads(alloc, of.hours, &plan.part, &plan.packing.rank)?;
@@ -329,6 +352,9 @@ fn choose(
 
 /// The places of the hours that are to be planned for, at most `most`: the present, which is the first, and of the
 /// others those in which a plan for the chosen ones is most uneven, until it is within `wanted.keep` percent in all.
+///
+/// That plan divides the rows once, as `wanted.parts` says, or into at most `JUDGED_PARTS` parts where any number may
+/// be.
 ///
 /// An hour isn't chosen where more than half of all hours have more than ten times its load.
 pub fn chosen_hours(

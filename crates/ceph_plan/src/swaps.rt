@@ -1,8 +1,8 @@
 //! Which parts two ranks exchange where there are several hours, so that neither is loaded as much as the first was in
 //! its hottest hour.
 //!
-//! Of the parts of each other rank those are tried for a part that would even the loads in that hour most nearly.
-//! Nothing relies on what comes of it.
+//! Of the parts of each other rank those are tried for a part that would even the loads in that hour most nearly, and
+//! where none helps, for two parts, and two for one. Nothing relies on what comes of it.
 
 use crate::bound::has_number;
 use crate::order::PartHeat;
@@ -13,6 +13,12 @@ use std::cmp::Reverse;
 
 /// So many parts are tried on each side of the nearest.
 const WINDOW: usize = 4;
+
+/// No more parts of the most loaded rank than this are tried alone.
+const TRIED: usize = 64;
+
+/// So many of the hottest parts of a rank are tried in pairs.
+const PAIRED: usize = 12;
 
 /// The loads, and the most loaded rank.
 #[derive(Drop)]
@@ -27,14 +33,14 @@ pub(crate) struct Ground<'a> {
     pub hour: usize,
 }
 
-/// A part of the most loaded rank, one of another rank that comes for it, and the greatest load of both ranks then.
+/// Two parts of the most loaded rank, two of another rank that come for them, and the greatest load of both ranks then.
 /// The root's part stands for none.
 #[derive(Clone, Copy)]
 pub(crate) struct Swap {
-    /// The part that goes.
-    pub one: u32,
-    /// The part that comes.
-    pub other: u32,
+    /// The parts that go.
+    pub going: (u32, u32),
+    /// The parts that come.
+    pub coming: (u32, u32),
     /// The number of the other rank.
     pub to: usize,
     /// The greatest load of both ranks then.
@@ -105,13 +111,18 @@ pub(crate) fn parts_at(
     Ok(found)
 }
 
+/// The heat of two parts in an hour.
+fn heat_of(parts: &PartAmounts<'_>, hour: usize, both: (u32, u32)) -> u64 {
+    heat_in(parts, hour, both.0).saturating_add(heat_in(parts, hour, both.1))
+}
+
 /// The greater load of both ranks in an hour after an exchange.
 fn load_after(ground: &Ground<'_>, swap: Swap, hour: usize) -> u64 {
-    let one = heat_in(ground.parts, hour, swap.one);
-    let other = heat_in(ground.parts, hour, swap.other);
-    let here = load_in(ground.table, hour, ground.most).saturating_add(other);
-    let there = load_in(ground.table, hour, swap.to).saturating_add(one);
-    here.saturating_sub(one).max(there.saturating_sub(other))
+    let going = heat_of(ground.parts, hour, swap.going);
+    let coming = heat_of(ground.parts, hour, swap.coming);
+    let here = load_in(ground.table, hour, ground.most).saturating_add(coming);
+    let there = load_in(ground.table, hour, swap.to).saturating_add(going);
+    here.saturating_sub(going).max(there.saturating_sub(coming))
 }
 
 /// The greatest load of both ranks in any hour after an exchange, as far as it is less than that of another one.
@@ -126,31 +137,70 @@ fn greatest_after(ground: &Ground<'_>, swap: Swap) -> u64 {
     most
 }
 
-/// The better of an exchange and those of its part for these of the other rank.
-fn best_for(ground: &Ground<'_>, best: Swap, one: u32, others: &[PartHeat], to: usize) -> Swap {
-    let mut best = best;
-    for other in others {
-        let swap = Swap {
-            one,
-            other: other.part.0,
-            to,
+/// The better of two exchanges.
+fn better(ground: &Ground<'_>, best: Swap, swap: Swap) -> Swap {
+    let greatest = greatest_after(
+        ground,
+        Swap {
             greatest: best.greatest,
-        };
-        let greatest = greatest_after(ground, swap);
-        if greatest < best.greatest {
-            best = Swap { greatest, ..swap };
-        }
+            ..swap
+        },
+    );
+    if greatest < best.greatest {
+        Swap { greatest, ..swap }
+    } else {
+        best
+    }
+}
+
+/// The parts of the most loaded rank and of another one, the hottest in the hour last.
+#[derive(Drop)]
+struct Between<'a> {
+    /// The loads, and the most loaded rank.
+    ground: &'a Ground<'a>,
+    /// The parts of the most loaded rank.
+    hot: &'a [PartHeat],
+    /// The parts of the other rank.
+    cold: &'a [PartHeat],
+    /// The number of the other rank.
+    to: usize,
+}
+
+/// By how much the most loaded rank is hotter than both are where they are as hot in the hour.
+fn wanted(of: &Between<'_>) -> u64 {
+    let here = load_in(of.ground.table, of.ground.hour, of.ground.most);
+    here.saturating_sub(load_in(of.ground.table, of.ground.hour, of.to)) / 2
+}
+
+/// No exchange with the rank of this number.
+fn none_with(ground: &Ground<'_>, to: usize) -> Swap {
+    let root = ground.parts.root;
+    Swap {
+        going: (root, root),
+        coming: (root, root),
+        to,
+        greatest: load_in(ground.table, ground.hour, ground.most),
+    }
+}
+
+/// The better of an exchange and another one with each of these parts, which comes.
+fn with_coming(of: &Between<'_>, best: Swap, swap: Swap, parts: &[PartHeat]) -> Swap {
+    let mut best = best;
+    for one in parts {
+        let coming = (one.part.0, of.ground.parts.root);
+        best = better(of.ground, best, Swap { coming, ..swap });
     }
     best
 }
 
-/// The first place from this one on whose part is at least as hot.
-fn first_from(parts: &[PartHeat], from: usize, heat: u64) -> usize {
-    let mut at = from;
-    while at < parts.len() && parts[at].heat < heat {
-        at += 1;
+/// The better of an exchange and another one with each of these parts, which goes.
+fn with_going(of: &Between<'_>, best: Swap, swap: Swap, parts: &[PartHeat]) -> Swap {
+    let mut best = best;
+    for one in parts {
+        let going = (one.part.0, of.ground.parts.root);
+        best = better(of.ground, best, Swap { going, ..swap });
     }
-    at
+    best
 }
 
 /// The parts about a place.
@@ -164,51 +214,169 @@ fn about(parts: &[PartHeat], at: usize) -> &[PartHeat] {
     }
 }
 
-/// The better of an exchange and those with another rank.
-fn best_with(
-    ground: &Ground<'_>,
-    best: Swap,
-    hot: &[PartHeat],
-    cold: &[PartHeat],
-    to: usize,
-) -> Swap {
-    let here = load_in(ground.table, ground.hour, ground.most);
-    let wanted = here.saturating_sub(load_in(ground.table, ground.hour, to)) / 2;
+/// The first place whose part is at least as hot.
+fn place_of(parts: &[PartHeat], heat: u64) -> usize {
+    let (mut low, mut high) = (0, parts.len());
+    while low < high {
+        let middle = low + (high - low) / 2;
+        if parts[middle].heat < heat {
+            low = middle + 1;
+        } else {
+            high = middle;
+        }
+    }
+    low
+}
+
+/// The better of an exchange and those of one part for one.
+fn best_single(of: &Between<'_>, best: Swap) -> Swap {
+    let wanted = wanted(of);
+    let none = none_with(of.ground, of.to);
+    let step = of.hot.len() / TRIED + 1;
     let mut best = best;
-    let mut at = 0;
-    for one in hot {
-        at = first_from(cold, at, one.heat.saturating_sub(wanted));
-        best = best_for(ground, best, one.part.0, about(cold, at), to);
+    for (i, one) in of.hot.iter().enumerate() {
+        if i % step == 0 {
+            let going = (one.part.0, of.ground.parts.root);
+            let at = place_of(of.cold, one.heat.saturating_sub(wanted));
+            best = with_coming(of, best, Swap { going, ..none }, about(of.cold, at));
+        }
     }
     best
 }
 
+/// The hottest of these parts, as many as are tried in pairs.
+fn hottest(parts: &[PartHeat]) -> &[PartHeat] {
+    let first = parts.len().saturating_sub(PAIRED);
+    &parts[first..]
+}
+
+/// The better of an exchange and those of one part with each of the others, which go, for one that comes.
+fn two_go(of: &Between<'_>, best: Swap, one: PartHeat, others: &[PartHeat]) -> Swap {
+    let wanted = wanted(of);
+    let none = none_with(of.ground, of.to);
+    let mut best = best;
+    for other in others {
+        let going = (one.part.0, other.part.0);
+        let heat = one.heat.saturating_add(other.heat).saturating_sub(wanted);
+        let near = about(of.cold, place_of(of.cold, heat));
+        best = with_coming(of, best, Swap { going, ..none }, near);
+    }
+    best
+}
+
+/// The better of an exchange and those of one part with each of the others, which come, for one that goes.
+fn two_come(of: &Between<'_>, best: Swap, one: PartHeat, others: &[PartHeat]) -> Swap {
+    let wanted = wanted(of);
+    let none = none_with(of.ground, of.to);
+    let mut best = best;
+    for other in others {
+        let coming = (one.part.0, other.part.0);
+        let heat = one.heat.saturating_add(other.heat).saturating_add(wanted);
+        let near = about(of.hot, place_of(of.hot, heat));
+        best = with_going(of, best, Swap { coming, ..none }, near);
+    }
+    best
+}
+
+/// The better of an exchange and those of two parts for one.
+fn best_two_go(of: &Between<'_>, best: Swap) -> Swap {
+    let parts = hottest(of.hot);
+    let mut best = best;
+    for i in 0..parts.len() {
+        best = two_go(of, best, parts[i], &parts[i + 1..]);
+    }
+    best
+}
+
+/// The better of an exchange and those of one part for two.
+fn best_two_come(of: &Between<'_>, best: Swap) -> Swap {
+    let parts = hottest(of.cold);
+    let mut best = best;
+    for i in 0..parts.len() {
+        best = two_come(of, best, parts[i], &parts[i + 1..]);
+    }
+    best
+}
+
+/// The best exchange, of one part for one, or with `pairs` of two for one and of one for two.
+fn best_of(
+    alloc: Global,
+    ground: &Ground<'_>,
+    rank: &[Rank],
+    hot: &[PartHeat],
+    pairs: bool,
+) -> Result<Swap, AllocError> {
+    let mut best = none_with(ground, ground.most);
+    for number in 0..64u8 {
+        let to = usize::from(number);
+        if to != ground.most && has_number(ground.parts.ranks, number) {
+            let cold = &parts_at(alloc, ground.parts, rank, to, ground.hour)?;
+            let of = Between {
+                ground: &*ground,
+                hot: &*hot,
+                cold,
+                to,
+            };
+            best = if pairs {
+                best_two_come(&of, best_two_go(&of, best))
+            } else {
+                best_single(&of, best)
+            };
+        }
+    }
+    Ok(best)
+}
+
 /// The exchange that leaves both ranks least loaded in any hour, if there is one that leaves them less loaded than
-/// the most loaded rank is.
+/// the most loaded rank is: of one part for one, else of two for one.
 pub(crate) fn best_swap(
     alloc: Global,
     ground: &Ground<'_>,
     rank: &[Rank],
 ) -> Result<Option<Swap>, AllocError> {
     let hot = parts_at(alloc, ground.parts, rank, ground.most, ground.hour)?;
-    let greatest = load_in(ground.table, ground.hour, ground.most);
-    let none = Swap {
-        one: ground.parts.root,
-        other: ground.parts.root,
-        to: ground.most,
-        greatest,
-    };
-    let mut best = none;
-    for number in 0..64u8 {
-        let to = usize::from(number);
-        if to != ground.most && has_number(ground.parts.ranks, number) {
-            let cold = parts_at(alloc, ground.parts, rank, to, ground.hour)?;
-            best = best_with(ground, best, &hot, &cold, to);
-        }
+    let now = load_in(ground.table, ground.hour, ground.most);
+    let mut best = best_of(alloc, ground, rank, &hot, false)?;
+    if best.greatest >= now {
+        best = best_of(alloc, ground, rank, &hot, true)?;
     }
-    Ok(if best.greatest < greatest {
+    Ok(if best.greatest < now {
         Some(best)
     } else {
         None
     })
+}
+
+/// The load of a rank, in the hour in which it is greatest.
+pub(crate) fn worst_in(table: &[u64], hours: usize, rank: usize) -> u64 {
+    let mut most = 0;
+    for hour in 0..hours {
+        most = load_in(table, hour, rank).max(most);
+    }
+    most
+}
+
+/// Writes the load of a rank in an hour, if there is one.
+fn write(table: &mut [u64], hour: usize, rank: usize, load: u64) {
+    let at = hour.saturating_mul(64).saturating_add(rank);
+    if at < table.len() {
+        table[at] = load;
+    }
+}
+
+/// Takes the heat of a part from one rank to another one.
+pub(crate) fn reload(
+    table: &mut [u64],
+    parts: &PartAmounts<'_>,
+    part: u32,
+    from: usize,
+    to: usize,
+) {
+    for hour in 0..parts.hours.len() {
+        let heat = heat_in(parts, hour, part);
+        let here = load_in(table, hour, from).saturating_sub(heat);
+        write(table, hour, from, here);
+        let there = load_in(table, hour, to).saturating_add(heat);
+        write(table, hour, to, there);
+    }
 }

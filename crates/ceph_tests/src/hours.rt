@@ -72,13 +72,18 @@ fn of_hour(found: &HoursProposal, hour: usize) -> (u64, u64, u64) {
 }
 
 /// Hours, the heats of their rows, and what each of them comes to. Two children are hot in one hour, the others in the
-/// next: they are apart in each, which no plan for one hour alone gives, nor one for their sum.
+/// next: they are apart in each, which no plan for one hour alone gives, nor one for their sum. The last three hours
+/// are even once two parts are exchanged for one.
 const PLANNED: &[(&[&[u64]], &[(u64, u64, u64)])] = &[
     (
         &[&[0, 10, 10, 0, 0], &[0, 0, 0, 10, 10]],
         &[(20, 10, 10), (20, 10, 10)],
     ),
     (&[&[0, 10, 10, 0, 0]], &[(20, 10, 10)]),
+    (
+        &[&[0, 9, 9, 0, 0], &[0, 0, 6, 6, 0], &[0, 4, 4, 4, 4]],
+        &[(18, 9, 9), (12, 6, 6), (16, 8, 8)],
+    ),
 ];
 
 #[test]
