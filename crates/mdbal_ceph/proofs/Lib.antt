@@ -1,3 +1,4 @@
+pub mod Faults
 pub mod Gathered
 pub mod Kept
 pub mod LeftRows
@@ -6,6 +7,8 @@ pub mod OwnLines
 pub mod Parents
 pub mod PastHours
 pub mod PresentPinned
+pub mod Refusals
+pub mod Said
 pub mod SharedRows
 pub mod Simple
 pub mod Untouched

@@ -24,6 +24,12 @@ pub data DumpValue : Type 0 where
   Roots : List SubtreeRoot → DumpValue
   Loads : List FragmentHeat → DumpValue
 
+-- which dump it is
+pub data DumpKind : Type 0 where
+  OfRanks : DumpKind
+  OfRoots : DumpKind
+  OfLoads : DumpKind
+
 -- the files of a folder
 abbrev pub file_in : List ℕ → List ℕ → List ℕ
 file_in folder name = folder ++ (codes "/" ++ name)

@@ -1,3 +1,4 @@
+pub mod Causes
 pub mod Collections
 pub mod CommandLine
 pub mod DriverPlan
@@ -5,7 +6,10 @@ pub mod Dumps
 pub mod Exit
 pub mod Folder
 pub mod Hours
+pub mod Messages
 pub mod Named
+pub mod NoResults
+pub mod NotMade
 pub mod Options
 pub mod Outcomes
 pub mod OwnListPins

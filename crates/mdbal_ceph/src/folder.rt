@@ -21,7 +21,9 @@ pub trait Folder {
 
     /// Whether there is a file of a name.
     fn has(&self, name: &str) -> io::Result<bool>
-        ensures { IfOk result (λ there. there ≡ false → reads self.now name.now Missing) };
+        ensures missing { IfOk result (λ there. there ≡ false → reads self.now name.now Missing) }
+        ensures failed { IfErr result (λ error. error_kind error ≢ ErrorKind.OutOfMemory
+            → reads self.now name.now Failed) };
 }
 
 /// The files of the system. No contract says what bytes they have.

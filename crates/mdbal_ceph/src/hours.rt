@@ -1,12 +1,13 @@
 //! What is counted of the hours that are given: that of now, and earlier ones.
-ghost use Rattle.std.specs.Prelude.{◌≡◌, ◌++◌, All, IfOk, List, length, map};
+ghost use Rattle.std.specs.Prelude.{◌≡◌, ◌++◌, All, IfErr, IfOk, List, length, map};
 ghost use Rattle.ceph_dumps.specs.OneForOne.{AreOneForOne};
 ghost use Rattle.ceph_folding.specs.Folding.{AreHoursOf};
 ghost use Rattle.ceph_plan.specs.declared.hours.Hour.{Hour as TheHour};
 ghost use Rattle.mdbal_ceph.specs.Hours.{AreSeenAt, IsHourThen, IsSeenAt, has_heat};
+ghost use Rattle.mdbal_ceph.specs.NotMade.{HasNothingLeft, IsPastFault};
 
+use crate::no_result::{NoResult, PastFault};
 use crate::past::EarlierHour;
-use anyhow::{Error, bail};
 use ceph_plan::Hour;
 use ceph_snapshot::{Directory, Held, free_heats_then, heats_then, held_heat_then};
 use std::alloc::{AllocError, Global};
@@ -33,15 +34,14 @@ fn heats_at(
     alloc: Global,
     directories: &[Directory],
     hour: &EarlierHour<'_>,
-) -> Result<Vec<u64>, Error>
-    ensures { IfOk result (λ heats. IsSeenAt directories.now hour.now.kept heats) }
+) -> Result<Vec<u64>, NoResult>
+    ensures seen { IfOk result (λ heats. IsSeenAt directories.now hour.now.kept heats) }
+    ensures failed { IfErr result (HasNothingLeft directories.now hour.now) }
 {
     let heats = heats_then(alloc, directories, &hour.kept.heats)?;
     if !hour.kept.heats.is_empty() && !has_heat(&heats) {
-        bail!(
-            "{}: no directory that had heat then is there now",
-            hour.name
-        );
+        let name = String::from_str(alloc, hour.name)?;
+        return Err(NoResult::Past(name, PastFault::NothingInCommon));
     }
     Ok(heats)
 }
@@ -51,9 +51,10 @@ pub(crate) fn past_heats(
     alloc: Global,
     directories: &[Directory],
     earlier: &[EarlierHour<'_>],
-) -> Result<Vec<Vec<u64>>, Error>
+) -> Result<Vec<Vec<u64>>, NoResult>
     ensures each { IfOk result (λ hours. AreSeenAt directories.now earlier.now hours.items) }
     ensures sizes { IfOk result (λ hours. AreHoursOf (length directories.now) hours.items) }
+    ensures failed { IfErr result (IsPastFault directories.now earlier.now) }
 {
     let mut hours = Vec::with_capacity(alloc, earlier.len())?;
     for hour in earlier {

@@ -1,5 +1,5 @@
 //! Which ranks may have a part.
-ghost use Rattle.std.specs.Prelude.{◌≡◌, ℕ, None, IfSome, Some};
+ghost use Rattle.std.specs.Prelude.{◌≡◌, ℕ, List, None, IfSome, Some};
 ghost use Rattle.std.specs.Option.{option_map};
 ghost use Rattle.mds_types.specs.RankSet.{has_rank};
 ghost use Rattle.mdbal_ceph.specs.Usable.{IsMask, all_ranks, asked_mask, cluster_mask, hex_mask};
@@ -51,6 +51,8 @@ pub fn mask_of(asked: Option<RankSet>, own: Option<&str>) -> Option<RankSet>
     ensures mask { IfSome result (IsMask asked (option_map (λ text. text.now) own.entry)) }
     ensures asked { (mask : ℕ) → asked ≡ Some mask → result ≡ Some mask }
     ensures unset { asked ≡ None → own.entry ≡ None → result ≡ Some all_ranks }
+    ensures none { result ≡ None → (asked ≡ None) × ((text : List ℕ)
+        × (option_map (λ text. text.now) own.entry ≡ Some text) × (cluster_mask text ≡ None)) }
 {
     match (asked, own) {
         (Some(mask), _) => Some(mask),

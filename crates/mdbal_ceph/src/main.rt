@@ -2,6 +2,7 @@
 //! it.
 #![tactic(auto)]
 
+mod answers;
 mod collected;
 mod comparing;
 mod driver_plan;
@@ -13,7 +14,9 @@ mod input;
 mod inputs;
 mod laws;
 mod matched;
+mod messages;
 mod named;
+mod no_result;
 mod outcome;
 mod outputs;
 mod past;
@@ -28,7 +31,9 @@ mod writing;
 use dump_reader::CephDumps;
 use folder::SystemFolder;
 use inputs::Inputs;
+use messages::SystemMessages;
 use outputs::SystemOutputs;
+use progress::ProgressLines;
 use running::start;
 use std::process::ExitCode;
 use std::{env, io};
@@ -44,12 +49,20 @@ fn done(rt: &HostRuntime, words: &[String]) -> u8 {
     let inputs = Inputs {
         files: &SystemFolder { runtime: rt },
         reader: CephDumps,
-        clock: rt,
+        progress: &ProgressLines::new(rt, rt.stderr()),
         alloc: rt.alloc(),
     };
     let mut outputs = SystemOutputs { runtime: rt };
-    let (mut writer, mut errors) = (io::writer(rt), rt.stderr());
-    start(&inputs, words, &mut outputs, &mut writer, &mut errors)
+    let mut messages = SystemMessages {
+        errors: rt.stderr(),
+    };
+    start(
+        &inputs,
+        words,
+        &mut outputs,
+        &mut io::writer(rt),
+        &mut messages,
+    )
 }
 
 fn main(rt: HostRuntime) -> ExitCode {

@@ -1,10 +1,11 @@
 //! Plans what was collected.
-ghost use Rattle.std.specs.Prelude.{◌≡◌, ◌≤◌, ◌+◌, All, IfOk, IsOkAnd, length, map, min, string_bytes};
+ghost use Rattle.std.specs.Prelude.{◌≡◌, ◌≤◌, ◌+◌, All, IfErr, IfOk, IsOkAnd, length, map, min, string_bytes};
 ghost use Rattle.std.specs.Option.{option_map};
 ghost use Rattle.ceph_dumps.specs.PathList.{path_bytes};
 ghost use Rattle.ceph_folding.specs.Folding.{AreHoursFolded, AreHoursOf, IsFolded, StillKept};
 ghost use Rattle.ceph_snapshot.specs.Holding.{AreParentsFirst};
 ghost use Rattle.ceph_snapshot.specs.Snapshots.{IsSnapshot};
+ghost use Rattle.mdbal_ceph.specs.NotMade.{IsDecisionFault, IsNotPlanned, IsUsableFault};
 ghost use Rattle.mdbal_ceph.specs.Options.{wanted_by};
 ghost use Rattle.mdbal_ceph.specs.Outcomes.{AreFreeHeats, AreUnitHours, AreUnits, IsDecision, IsOutcome};
 ghost use Rattle.mdbal_ceph.specs.Outcomes.{hours_named};
@@ -14,10 +15,10 @@ ghost use Rattle.mdbal_ceph.specs.Usable.{AreUsable};
 use crate::collected::Collected;
 use crate::hours::{PastHour, given_hours, past_heats, past_hours};
 use crate::input::{mask_of, ranks_of};
+use crate::no_result::{NoPlan, NoResult};
 use crate::past::{EarlierHour, refuse_others};
 use crate::planning::{PlanAsked, plan_hours};
 use crate::settings::PlanSettings;
-use anyhow::{Error, bail};
 use ceph_dumps::{FileSystem, FileSystemRanks};
 use ceph_folding::{fold, fold_to_units};
 use ceph_pins::{Advice, advised, own_pins, unit_marks};
@@ -79,17 +80,19 @@ pub(crate) struct Outcome {
 }
 
 /// The ranks that may have a part.
-fn usable(settings: &PlanSettings, cluster: &FileSystemRanks) -> Result<RankSet, Error>
-    ensures { IfOk result (AreUsable settings.now.mask (option_map string_bytes cluster.now.mask) cluster.now) }
+fn usable(settings: &PlanSettings, cluster: &FileSystemRanks) -> Result<RankSet, NoResult>
+    ensures ranks { IfOk result (AreUsable settings.now.mask (option_map string_bytes cluster.now.mask) cluster.now) }
+    ensures failed { IfErr result (IsUsableFault settings.now.mask (option_map string_bytes cluster.now.mask)
+        cluster.now) }
 {
     let Some(mask) = mask_of(settings.mask, cluster.mask.as_deref()) else {
-        bail!("the cluster's mask isn't -1, all or 1 to 16 hexadecimal digits: give --mask");
+        return Err(NoResult::NoPlan(NoPlan::BadMask));
     };
     if settings.mask.is_none() && !mask.has(Rank::default()) {
-        bail!("the cluster's mask lacks rank 0, which keeps the root directory: give --mask");
+        return Err(NoResult::NoPlan(NoPlan::MaskWithoutZero));
     }
     if !cluster.active.has(Rank::default()) {
-        bail!("rank 0 is not active: wait until it is");
+        return Err(NoResult::NoPlan(NoPlan::ZeroNotActive));
     }
     Ok(ranks_of(mask, cluster))
 }
@@ -137,11 +140,13 @@ fn decided(
     spread: &[u64],
     leave: &[Vec<u8>],
     past: &[PastHour<'_>],
-) -> Result<Decision, Error>
+) -> Result<Decision, NoResult>
     requires spread { length spread.now ≡ 64 }
     requires heats { All (λ hour. length hour.heats.items ≡ length directories.now) past.now }
     requires spreads { All (λ hour. length hour.spread.now ≡ 64) past.now }
-    ensures { IfOk result (IsDecision directories.now spread.now (path_bytes leave.now) past.now asked.now) }
+    ensures decision { IfOk result (IsDecision directories.now spread.now (path_bytes leave.now) past.now asked.now) }
+    ensures failed { IfErr result (IsDecisionFault directories.now spread.now (path_bytes leave.now) past.now
+        asked.now) }
 {
     let holds = holds(alloc, directories)?;
     let held = holds.as_slice();
@@ -234,7 +239,7 @@ pub fn planned(
     collected: Collected,
     earlier: &[EarlierHour<'_>],
     leave: &[Vec<u8>],
-) -> Result<Outcome, Error>
+) -> Result<Outcome, NoResult>
     requires snapshot { IsSnapshot collected.snapshot }
     requires spread { All (λ hour. length hour.kept.spread.items ≡ 64) earlier.now }
     ensures outcome { IfOk result (IsOutcome collected.snapshot.directories.items collected.snapshot.spread.items
@@ -248,6 +253,7 @@ pub fn planned(
     ensures size { IfOk result (λ outcome. outcome.size ≡ collected.cluster.size) }
     ensures balances { IfOk result (λ outcome. outcome.balances ≡ collected.balances) }
     ensures samples { IfOk result (λ outcome. outcome.samples ≡ collected.samples) }
+    ensures failed { IfErr result (IsNotPlanned settings.now collected earlier.now (path_bytes leave.now)) }
 {
     let Collected {
         file_system,
@@ -257,7 +263,7 @@ pub fn planned(
         own: _,
         snapshot,
     } = collected;
-    refuse_others(earlier, &file_system)?;
+    refuse_others(alloc, earlier, &file_system)?;
     let ranks = usable(settings, &cluster)?;
     let spread = snapshot.spread;
     let mut hours = past_heats(alloc, &snapshot.directories, earlier)?;

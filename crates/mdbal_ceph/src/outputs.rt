@@ -1,11 +1,11 @@
 //! The files that are written.
-ghost use Rattle.std.specs.Prelude.{◌≡◌, ◌++◌, ◌∷◌, [], IfOk, OnErr, OnOk, Some, string_bytes};
+ghost use Rattle.std.specs.Prelude.{◌≡◌, ◌++◌, ◌∷◌, [], IfErr, IfOk, OnOk, Some, string_bytes};
 ghost use Rattle.std.specs.Option.{option_map};
 ghost use Rattle.mdbal_ceph.specs.Exit.{IsCutShort, Whole, Writes, pins_files, plan_files, shown_files, text_files};
 
+use crate::no_result::{NoResult, unwritten};
 use crate::settings::PlanSettings;
 use crate::writing::{PinFiles, PlanOutput};
-use anyhow::{Context, Error};
 use command_line::create_file;
 use std::alloc::{AllocError, Global};
 use std::io;
@@ -15,7 +15,7 @@ use std::rt::Files;
 /// Where files are written.
 pub trait OutputFiles {
     ghost use Rattle.std.specs.Prelude.{◌∷◌, [], ℕ, List, Option, OnErr, OnOk};
-    ghost use Rattle.mdbal_ceph.specs.Exit.{FileWrite, IsCutShort, Whole, Writes};
+    ghost use Rattle.mdbal_ceph.specs.Exit.{FileWrite, IsFrontLeft, Whole, Writes};
 
     // What was written, in its order, where it is known.
     ghost written: { Self → Option (List FileWrite) };
@@ -23,7 +23,7 @@ pub trait OutputFiles {
     /// Makes a file of this name, or empties the one that is there, and writes these bytes to it.
     fn write_file(&mut self, name: &str, bytes: &[u8]) -> io::Result<()>
         ensures whole { OnOk result (Writes (written self.old) (written self.new) (Whole name.now bytes.now ∷ [])) }
-        ensures cut { OnErr result (IsCutShort (written self.old) (written self.new) (Whole name.now bytes.now ∷ [])) };
+        ensures cut { OnErr result (IsFrontLeft (written self.old) (written self.new) [] name.now) };
 }
 
 /// The files of the system. No contract says what they hold afterwards.
@@ -46,15 +46,21 @@ impl<T: Files> OutputFiles for SystemOutputs<'_, T> {
 }
 
 /// Writes a file.
-fn write_file<O: OutputFiles>(outputs: &mut O, name: &str, bytes: &[u8]) -> Result<(), Error>
+fn write_file<O: OutputFiles>(
+    outputs: &mut O,
+    alloc: Global,
+    name: &str,
+    bytes: &[u8],
+) -> Result<(), NoResult>
     ensures whole { OnOk result (Writes (O.written outputs.old) (O.written outputs.new)
         (Whole name.now bytes.now ∷ [])) }
-    ensures cut { OnErr result (IsCutShort (O.written outputs.old) (O.written outputs.new)
+    ensures cut { IfErr result (IsCutShort (O.written outputs.old) (O.written outputs.new)
         (Whole name.now bytes.now ∷ [])) }
 {
-    outputs
-        .write_file(name, bytes)
-        .context(format_args!("{name}"))
+    match outputs.write_file(name, bytes) {
+        Ok(()) => Ok(()),
+        Err(error) => Err(unwritten(alloc, name, error)),
+    }
 }
 
 /// A name with these letters after it.
@@ -70,19 +76,19 @@ fn write_pin_files<O: OutputFiles>(
     alloc: Global,
     name: &str,
     pins: &PinFiles,
-) -> Result<(), Error>
+) -> Result<(), NoResult>
     ensures whole { OnOk result (Writes (O.written outputs.old) (O.written outputs.new)
         (pins_files (Some name.now) (Some pins.now))) }
-    ensures cut { OnErr result (IsCutShort (O.written outputs.old) (O.written outputs.new)
+    ensures cut { IfErr result (IsCutShort (O.written outputs.old) (O.written outputs.new)
         (pins_files (Some name.now) (Some pins.now))) }
 {
     let own = with_ending(alloc, name, ".own")?;
     let plan = with_ending(alloc, name, ".plan")?;
     let back = with_ending(alloc, name, ".back")?;
-    write_file(outputs, own.as_str(), pins.own.as_slice())?;
-    write_file(outputs, plan.as_str(), pins.plan.as_slice())?;
-    write_file(outputs, back.as_str(), pins.back.as_slice())?;
-    write_file(outputs, name, pins.script.as_slice())?;
+    write_file(outputs, alloc, own.as_str(), pins.own.as_slice())?;
+    write_file(outputs, alloc, plan.as_str(), pins.plan.as_slice())?;
+    write_file(outputs, alloc, back.as_str(), pins.back.as_slice())?;
+    write_file(outputs, alloc, name, pins.script.as_slice())?;
     Ok(())
 }
 
@@ -92,10 +98,10 @@ fn write_pins<O: OutputFiles>(
     alloc: Global,
     name: Option<&str>,
     pins: &Option<PinFiles>,
-) -> Result<(), Error>
+) -> Result<(), NoResult>
     ensures whole { OnOk result (Writes (O.written outputs.old) (O.written outputs.new)
         (pins_files (option_map (λ name. name.now) name.entry) pins.now)) }
-    ensures cut { OnErr result (IsCutShort (O.written outputs.old) (O.written outputs.new)
+    ensures cut { IfErr result (IsCutShort (O.written outputs.old) (O.written outputs.new)
         (pins_files (option_map (λ name. name.now) name.entry) pins.now)) }
 {
     let Some(name) = name else {
@@ -111,12 +117,13 @@ fn write_pins<O: OutputFiles>(
 /// Writes a text to a file, where both are there.
 fn write_text<O: OutputFiles>(
     outputs: &mut O,
+    alloc: Global,
     name: Option<&str>,
     text: &Option<Vec<u8>>,
-) -> Result<(), Error>
+) -> Result<(), NoResult>
     ensures whole { OnOk result (Writes (O.written outputs.old) (O.written outputs.new)
         (text_files (option_map (λ name. name.now) name.entry) text.now)) }
-    ensures cut { OnErr result (IsCutShort (O.written outputs.old) (O.written outputs.new)
+    ensures cut { IfErr result (IsCutShort (O.written outputs.old) (O.written outputs.new)
         (text_files (option_map (λ name. name.now) name.entry) text.now)) }
 {
     let Some(name) = name else {
@@ -125,23 +132,24 @@ fn write_text<O: OutputFiles>(
     let Some(text) = text else {
         return Ok(());
     };
-    write_file(outputs, name, text.as_slice())?;
+    write_file(outputs, alloc, name, text.as_slice())?;
     Ok(())
 }
 
 /// Writes the record and the picture, where they are asked for.
 fn write_texts<O: OutputFiles>(
     outputs: &mut O,
+    alloc: Global,
     settings: &PlanSettings,
     output: &PlanOutput,
-) -> Result<(), Error>
+) -> Result<(), NoResult>
     ensures whole { OnOk result (Writes (O.written outputs.old) (O.written outputs.new)
         (shown_files settings.now output.now)) }
-    ensures cut { OnErr result (IsCutShort (O.written outputs.old) (O.written outputs.new)
+    ensures cut { IfErr result (IsCutShort (O.written outputs.old) (O.written outputs.new)
         (shown_files settings.now output.now)) }
 {
-    write_text(outputs, settings.record_to, &output.hour_record)?;
-    write_text(outputs, settings.svg, &output.picture)?;
+    write_text(outputs, alloc, settings.record_to, &output.hour_record)?;
+    write_text(outputs, alloc, settings.svg, &output.picture)?;
     Ok(())
 }
 
@@ -151,14 +159,14 @@ pub(crate) fn write_files<O: OutputFiles>(
     alloc: Global,
     settings: &PlanSettings,
     output: &PlanOutput,
-) -> Result<(), Error>
+) -> Result<(), NoResult>
     ensures whole { OnOk result (Writes (O.written outputs.old) (O.written outputs.new)
         (plan_files settings.now output.now)) }
-    ensures cut { OnErr result (IsCutShort (O.written outputs.old) (O.written outputs.new)
+    ensures cut { IfErr result (IsCutShort (O.written outputs.old) (O.written outputs.new)
         (plan_files settings.now output.now)) }
 {
-    write_texts(outputs, settings, output)?;
-    write_text(outputs, settings.script, &output.script)?;
+    write_texts(outputs, alloc, settings, output)?;
+    write_text(outputs, alloc, settings.script, &output.script)?;
     write_pins(outputs, alloc, settings.pins, &output.pins)?;
     Ok(())
 }

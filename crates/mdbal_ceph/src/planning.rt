@@ -1,16 +1,18 @@
 //! Which hours are planned for, and what the plan comes to in each of them.
-ghost use Rattle.std.specs.Prelude.{◌≡◌, ◌<◌, ◌≤◌, ◌+◌, ◌*◌, ◌^◌, ◌++◌, [], ℕ, Bool, IfOk, List, length, map};
+ghost use Rattle.std.specs.Prelude.{◌≡◌, ◌⊎◌, ◌<◌, ◌≤◌, ◌+◌, ◌*◌, ◌^◌, ◌++◌, [], ℕ, Bool, IfErr, IfOk, List, length};
+ghost use Rattle.std.specs.Prelude.{map};
 ghost use Rattle.std.specs.Prelude.{slice_index, slice_index_or};
 ghost use Rattle.std.specs.Option.{option_map};
 ghost use Rattle.ceph_dumps.specs.OneForOne.{AreOneForOne};
 ghost use Rattle.ceph_plan.specs.ChosenHours.{AreThose};
-ghost use Rattle.ceph_plan.specs.MadeHours.{AreMadeHours};
+ghost use Rattle.ceph_plan.specs.MadeHours.{AreMadeHours, IsMadeRefusal};
 ghost use Rattle.ceph_plan.specs.declared.hours.Hour.{Hour as TheHour};
 ghost use Rattle.mdbal_ceph.specs.Hours.{AreFree, ArePlannedFor, AreToldHours, IsCopied, IsPlanOfHours, told_name};
 ghost use Rattle.mdbal_ceph.specs.Hours.{is_chosen, left_names, loads_in, made_most, made_name, hour_weight};
+ghost use Rattle.mdbal_ceph.specs.NotMade.{IsNoHoursPlan};
 
+use crate::no_result::NoResult;
 use crate::values::MOST_HOURS;
-use anyhow::Error;
 use ceph_plan::{
     Hour, HoursProposal, MADE_WEIGHT, MadeHour, OwnPins, PlanError, Proposal, Wanted, chosen_hours,
     made_hours, propose_for,
@@ -73,8 +75,9 @@ pub(crate) fn made_for(
     most: usize,
 ) -> Result<Vec<MadeHour>, PlanError>
     requires { length holds.now ≡ length rows.now }
-    ensures { IfOk result (λ made. (free : List Bool) × AreFree holds.now free
+    ensures made { IfOk result (λ made. (free : List Bool) × AreFree holds.now free
         × AreMadeHours rows.now free present.now most made.items) }
+    ensures failed { IfErr result (λ error. (error ≡ PlanError.Memory) ⊎ IsMadeRefusal rows.now present.now error) }
 {
     let free = free_of(alloc, holds)?;
     if most == 0 {
@@ -281,13 +284,14 @@ pub(crate) fn plan_hours(
     rows: &[ProblemRow],
     own: &[OwnPins],
     given: &[Hour],
-) -> Result<PlanOfHours, Error>
+) -> Result<PlanOfHours, NoResult>
     requires some { 0 < length given.now }
     requires holds { length holds.now ≡ length rows.now }
     requires own { length own.now ≡ length rows.now }
-    ensures { IfOk result (λ found. IsPlanOfHours asked.now directories.now holds.now
+    ensures plan { IfOk result (λ found. IsPlanOfHours asked.now directories.now holds.now
         rows.now own.now given.now found.proposal found.hours.items
         (map (λ name. name.items) found.left.items)) }
+    ensures failed { IfErr result (IsNoHoursPlan asked.now rows.now own.now given.now) }
 {
     let (wanted, ranks) = (asked.wanted, asked.ranks);
     let most = usize::from(asked.chosen);

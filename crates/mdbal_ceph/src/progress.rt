@@ -1,36 +1,85 @@
-//! Lines on standard error that say what a long run is at.
+//! Lines that say what a long run is at, where standard error is a terminal.
 
-use std::io::Write;
+use std::cell::Cell;
+use std::io::{IsTerminal, Write};
 use std::rt::Clock;
 use std::time::{Duration, Instant};
 
-/// When the last line was written, or the run began.
-#[derive(Clone, Copy)]
-pub struct Progress<'a, C> {
-    clock: &'a C,
-    since: Option<Instant>,
+/// What a run is at.
+pub trait Progress {
+    /// So many dumps of heat are read next.
+    fn begin(&self, dumps: u64);
+
+    /// One more of them is read.
+    fn reading(&self);
+
+    /// This step begins.
+    fn tell(&self, step: &str);
 }
 
-impl<'a, C: Clock> Progress<'a, C> {
+/// Lines on standard error: at most one a second, and none where it is no terminal.
+#[derive(Drop)]
+pub struct ProgressLines<'a, C, E> {
+    clock: &'a C,
+    errors: E,
+    /// When the last line was written, or the run began; none where no line is wanted.
+    since: Cell<Option<Instant>>,
+    dumps: Cell<u64>,
+    read: Cell<u64>,
+}
+
+impl<'a, C: Clock, E: IsTerminal> ProgressLines<'a, C, E> {
     /// From now on.
-    pub fn begin(clock: &'a C) -> Progress<'a, C> {
-        Progress {
+    pub fn new(clock: &'a C, errors: E) -> ProgressLines<'a, C, E> {
+        let since = if errors.is_terminal() {
+            Instant::now(clock).ok()
+        } else {
+            None
+        };
+        ProgressLines {
             clock,
-            since: Instant::now(clock).ok(),
+            errors,
+            since: Cell::new(since),
+            dumps: Cell::new(0),
+            read: Cell::new(0),
+        }
+    }
+}
+
+impl<C: Clock, E: Write + Copy> ProgressLines<'_, C, E> {
+    /// Whether a second has gone since the last line. A clock that fails is silent.
+    fn is_due(&self) -> bool {
+        let Some(since) = self.since.get() else {
+            return false;
+        };
+        match since.elapsed(self.clock) {
+            Ok(passed) => passed >= Duration::from_secs(1),
+            Err(_) => false,
+        }
+    }
+}
+
+impl<C: Clock, E: Write + Copy> Progress for ProgressLines<'_, C, E> {
+    fn begin(&self, dumps: u64) {
+        self.dumps.set(dumps);
+        self.read.set(0);
+    }
+
+    fn reading(&self) {
+        let (read, dumps) = (self.read.get().saturating_add(1), self.dumps.get());
+        self.read.set(read);
+        if self.is_due() {
+            let mut errors = self.errors;
+            let _ = writeln!(errors, "mdbal_ceph: reading {read} of {dumps}");
+            self.since.set(Instant::now(self.clock).ok());
         }
     }
 
-    /// Names the step that begins, if a second has gone since the last line. A clock that fails is silent.
-    pub fn tell<E: Write>(&mut self, errors: &mut E, step: &str) {
-        let Some(since) = self.since else {
-            return;
-        };
-        let clock = self.clock;
-        let passed = since.elapsed(clock);
-        let is_due = matches!(passed, Ok(passed) if passed >= Duration::from_secs(1));
-        if is_due {
+    fn tell(&self, step: &str) {
+        if self.is_due() {
+            let mut errors = self.errors;
             let _ = writeln!(errors, "mdbal_ceph: {step}");
-            self.since = Instant::now(clock).ok();
+            self.since.set(Instant::now(self.clock).ok());
         }
     }
 }

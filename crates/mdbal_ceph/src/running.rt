@@ -1,8 +1,9 @@
 //! The program over any files and devices: from the words of its command line to its exit status.
-ghost use Rattle.std.specs.Prelude.{◌≡◌, ◌⊎◌, IfOk, OnErr, OnOk, map};
+ghost use Rattle.std.specs.Prelude.{◌≡◌, ◌⊎◌, IfErr, IfOk, OnOk, map};
 ghost use Rattle.std.specs.Io.KnownBytes.{Appends};
-ghost use Rattle.mdbal_ceph.specs.Exit.{IsAskedFor, IsCutShort, IsExit, IsRun, Writes, files_made, status_made};
-ghost use Rattle.mdbal_ceph.specs.Exit.{text_made};
+ghost use Rattle.mdbal_ceph.specs.Exit.{IsAskedFor, IsCutShort, IsExit, IsRun, IsUnprinted, Writes, files_made};
+ghost use Rattle.mdbal_ceph.specs.Exit.{status_made, text_made};
+ghost use Rattle.mdbal_ceph.specs.NotMade.{IsNotMade};
 
 use crate::collected::read_named;
 use crate::comparing::compared;
@@ -10,16 +11,16 @@ use crate::dump_reader::DumpReader;
 use crate::files::carry_out;
 use crate::folder::Folder;
 use crate::inputs::Inputs;
+use crate::messages::{Messages, explain};
+use crate::no_result::NoResult;
 use crate::outputs::{OutputFiles, write_files};
 use crate::progress::Progress;
 use crate::settings::{PlanSettings, settings_of};
 use crate::writing::PlanOutput;
-use anyhow::{Context, Error};
 use ceph_report::PinCheck;
 use std::alloc::Global;
 use std::convert::AsStr;
 use std::io::Write;
-use std::rt::Clock;
 
 /// What a run makes.
 #[derive(Drop)]
@@ -57,23 +58,22 @@ impl Made {
 }
 
 /// Makes what the settings ask for.
-fn make<F: Folder, D: DumpReader, C: Clock, E: Write>(
-    inputs: &Inputs<'_, F, D, C>,
-    errors: &mut E,
+fn make<F: Folder, D: DumpReader, P: Progress>(
+    inputs: &Inputs<'_, F, D, P>,
     settings: &PlanSettings,
-) -> Result<Made, Error>
-    ensures { IfOk result (IsAskedFor (F.reads inputs.now.files.now) D.says settings.now) }
+) -> Result<Made, NoResult>
+    ensures made { IfOk result (IsAskedFor (F.reads inputs.now.files.now) D.says settings.now) }
+    ensures failed { IfErr result (IsNotMade (F.reads inputs.now.files.now) D.says D.refuses settings.now) }
 {
-    let mut progress = Progress::begin(inputs.clock);
     if let Some(name) = settings.check {
-        let found = compared(&mut progress, errors, inputs, settings.folder, name)?;
+        let found = compared(inputs, settings.folder, name)?;
         return Ok(Made::Checked(found));
     }
     if settings.paths0 {
-        let text = read_named(&mut progress, errors, inputs, settings.folder, settings.own)?;
+        let text = read_named(inputs, settings.folder, settings.own)?;
         return Ok(Made::Named(text));
     }
-    let output = carry_out(&mut progress, errors, inputs, settings)?;
+    let output = carry_out(inputs, settings)?;
     Ok(Made::Planned(output))
 }
 
@@ -83,10 +83,10 @@ fn write_made<O: OutputFiles>(
     alloc: Global,
     settings: &PlanSettings,
     made: &Made,
-) -> Result<(), Error>
+) -> Result<(), NoResult>
     ensures whole { OnOk result (Writes (O.written outputs.old) (O.written outputs.new)
         (files_made settings.now made.now)) }
-    ensures cut { OnErr result (IsCutShort (O.written outputs.old) (O.written outputs.new)
+    ensures cut { IfErr result (IsCutShort (O.written outputs.old) (O.written outputs.new)
         (files_made settings.now made.now)) }
 {
     if let Made::Planned(output) = made {
@@ -96,10 +96,14 @@ fn write_made<O: OutputFiles>(
 }
 
 /// Prints a text.
-fn print<W: Write>(writer: &mut W, text: &[u8]) -> Result<(), Error>
-    ensures { OnOk result (Appends (W.contents writer.old) (W.contents writer.new) text.now) }
+fn print<W: Write>(writer: &mut W, text: &[u8]) -> Result<(), NoResult>
+    ensures text { OnOk result (Appends (W.contents writer.old) (W.contents writer.new) text.now) }
+    ensures failed { IfErr result IsUnprinted }
 {
-    writer.write_all(text).context("standard output")
+    match writer.write_all(text) {
+        Ok(()) => Ok(()),
+        Err(error) => Err(NoResult::Unprinted(error)),
+    }
 }
 
 /// Writes the files of what was made, and then prints its text.
@@ -109,45 +113,44 @@ fn deliver<O: OutputFiles, W: Write>(
     alloc: Global,
     settings: &PlanSettings,
     made: &Made,
-) -> Result<(), Error>
+) -> Result<(), NoResult>
     ensures files { OnOk result (Writes (O.written outputs.old) (O.written outputs.new)
         (files_made settings.now made.now)) }
     ensures text { OnOk result (Appends (W.contents writer.old) (W.contents writer.new) (text_made made.now)) }
-    ensures failed { OnErr result ((IsCutShort (O.written outputs.old) (O.written outputs.new)
-        (files_made settings.now made.now) × (writer.new ≡ writer.old))
-        ⊎ Writes (O.written outputs.old) (O.written outputs.new) (files_made settings.now made.now)) }
+    ensures failed { IfErr result (λ error. (IsCutShort (O.written outputs.old) (O.written outputs.new)
+        (files_made settings.now made.now) error × (writer.new ≡ writer.old))
+        ⊎ (Writes (O.written outputs.old) (O.written outputs.new) (files_made settings.now made.now)
+        × IsUnprinted error)) }
 {
     write_made(outputs, alloc, settings, made)?;
     print(writer, made.text())?;
     Ok(())
 }
 
-/// Says what went wrong. Gives the status for that.
-fn explain<E: Write>(error: &Error, errors: &mut E) -> u8
-    ensures { result ≡ 1 }
-{
-    let _ = writeln!(errors, "mdbal_ceph: {error:#}");
-    1
-}
-
 /// Does what the settings ask for. Gives the status.
-fn run<F: Folder, D: DumpReader, C: Clock, O: OutputFiles, W: Write, E: Write>(
-    inputs: &Inputs<'_, F, D, C>,
+fn run<F: Folder, D: DumpReader, P: Progress, O: OutputFiles, W: Write, M: Messages>(
+    inputs: &Inputs<'_, F, D, P>,
     outputs: &mut O,
     writer: &mut W,
-    errors: &mut E,
+    messages: &mut M,
     settings: &PlanSettings,
 ) -> u8
-    ensures { IsRun (F.reads inputs.now.files.now) D.says W.contents O.written writer.old writer.new outputs.old
-        outputs.new settings.now result }
+    ensures { IsRun (F.reads inputs.now.files.now) D.says D.refuses W.contents O.written M.said writer.old writer.new
+        outputs.old outputs.new messages.old messages.new settings.now result }
 {
-    let made = match make(inputs, errors, settings) {
+    let made = match make(inputs, settings) {
         Ok(made) => made,
-        Err(error) => return explain(&error, errors),
+        Err(error) => {
+            explain(messages, &error);
+            return 1;
+        }
     };
     match deliver(outputs, writer, inputs.alloc, settings, &made) {
         Ok(()) => made.status(),
-        Err(error) => explain(&error, errors),
+        Err(error) => {
+            explain(messages, &error);
+            1
+        }
     }
 }
 
@@ -156,18 +159,26 @@ fn run<F: Folder, D: DumpReader, C: Clock, O: OutputFiles, W: Write, E: Write>(
 /// It is 0 where changes are proposed, where a driver's plan or the pins of a list hold, for a list of paths, and for
 /// the help and the version; 1 where a file is missing, broken or can't be written, or there is no plan; 2 where the
 /// words are refused; 3 where nothing is proposed; 4 where the driver's plan or a pin does not hold.
-pub fn start<F: Folder, D: DumpReader, C: Clock, O: OutputFiles, S: AsStr, W: Write, E: Write>(
-    inputs: &Inputs<'_, F, D, C>,
+pub fn start<
+    F: Folder,
+    D: DumpReader,
+    P: Progress,
+    O: OutputFiles,
+    S: AsStr,
+    W: Write,
+    M: Messages,
+>(
+    inputs: &Inputs<'_, F, D, P>,
     words: &[S],
     outputs: &mut O,
     writer: &mut W,
-    errors: &mut E,
+    messages: &mut M,
 ) -> u8
-    ensures { IsExit (F.reads inputs.now.files.now) D.says W.contents O.written writer.old writer.new outputs.old
-        outputs.new (map S.text words.now) result }
+    ensures { IsExit (F.reads inputs.now.files.now) D.says D.refuses W.contents O.written M.said writer.old writer.new
+        outputs.old outputs.new messages.old messages.new (map S.text words.now) result }
 {
     match settings_of(inputs.alloc, words) {
-        Ok(settings) => run(inputs, outputs, writer, errors, &settings),
-        Err(refused) => refused.print(writer, errors),
+        Ok(settings) => run(inputs, outputs, writer, messages, &settings),
+        Err(refused) => refused.print(writer, messages),
     }
 }

@@ -4,11 +4,14 @@ ghost use Rattle.clap.specs.Words.{app_of, fault_of, first_of, found_of, matches
 ghost use Rattle.command_line.specs.Outcome.{Explains};
 ghost use Rattle.mdbal_ceph.specs.CommandLine.{AreSettings, EndsAs, GivesNoSettings, folder_rule, mdbal_ceph};
 ghost use Rattle.mdbal_ceph.specs.CommandLine.{option_rule};
+ghost use Rattle.mdbal_ceph.specs.Exit.{IsRefusalSaid};
 ghost use Rattle.mdbal_ceph.specs.CommandLine.{option_rules, plan_command, with_options};
 ghost use Rattle.mdbal_ceph.specs.Options.{AreRead, FitTogether, IsFlag, IsPastNamed, folders_named, least_named};
 ghost use Rattle.mdbal_ceph.specs.Options.{value_or};
 
+use crate::answers::answer;
 use crate::matched::{folders_of, has_flag, value_of, value_or};
+use crate::messages::Messages;
 use crate::values::{
     heat_if_any, heat_of, hours_of, inodes_if_any, made_of, mask_of, mount_of, parts_of, percent_of,
 };
@@ -96,23 +99,17 @@ pub enum Refused {
 }
 
 impl Refused {
-    /// Says why: the help and the version go to `writer`, all else to `errors`. Gives the status: 0 for the help and
+    /// Says why: the help and the version go to `writer`, all else to `messages`. Gives the status: 0 for the help and
     /// the version, 1 where they can't be written, else 2.
-    pub fn print<W: Write, E: Write>(&self, writer: &mut W, errors: &mut E) -> u8
+    pub fn print<W: Write, M: Messages>(&self, writer: &mut W, messages: &mut M) -> u8
         ensures status { EndsAs self.now result }
         ensures unprinted { result ≡ 2 → writer.new ≡ writer.old }
+        ensures said { IsRefusalSaid (M.said messages.old) (M.said messages.new) result self.now }
     {
         match self {
-            Refused::Words(OptionsError::Memory) => {
-                let _ = writeln!(errors, "mdbal_ceph: no memory");
-                2
-            }
-            Refused::Words(error) => match error.print(writer, errors) {
-                3 => 1,
-                status => status,
-            },
+            Refused::Words(error) => answer(error, writer, messages),
             Refused::Value(option) => {
-                let _ = writeln!(errors, "mdbal_ceph: {option}: see --help");
+                messages.say(format_args!("mdbal_ceph: {option}: see --help\n"));
                 2
             }
         }
@@ -354,7 +351,10 @@ fn least_of(matches: &ArgMatches<'_>) -> Result<Least, &'static str>
             value_of(matches, "least-heat"),
             "--least-heat takes a whole number",
         )?,
-        percent: percent_of(value_or(matches, "least-gain", "5"))?,
+        percent: percent_of(
+            value_or(matches, "least-gain", "5"),
+            "--least-gain takes a whole number from 0 to 255, without a sign of percent",
+        )?,
         each_thousand: heat_of(
             value_or(matches, "least-by-inodes", "0"),
             "--least-by-inodes takes a whole number",
@@ -374,6 +374,9 @@ fn hours_asked<'a>(
     let Some(folder) = earlier.pop() else {
         return Err("a DIR is missing");
     };
+    if folder.is_empty() {
+        return Err("a DIR is empty");
+    }
     let past = HoursAsked {
         earlier,
         hours: hours_of(value_or(matches, "hours", "24"))?,
@@ -401,7 +404,10 @@ fn found<'a>(
     let mask = mask_of(value_of(matches, "mask"))?;
     let most = value_or(matches, "most-pins", "10000");
     let parts = parts_of(value_or(matches, "parts", "auto"), most)?;
-    let keep = percent_of(value_or(matches, "keep", "5"))?;
+    let keep = percent_of(
+        value_or(matches, "keep", "5"),
+        "--keep takes a whole number from 0 to 255, without a sign of percent",
+    )?;
     let (folder, past) = hours_asked(matches, folders)?;
     Ok(PlanSettings {
         folder,

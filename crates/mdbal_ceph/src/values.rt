@@ -31,12 +31,12 @@ pub(crate) fn parts_of(text: &str, most: &str) -> Result<PartCount, &'static str
 }
 
 /// The percentage that a text names.
-pub(crate) fn percent_of(text: &str) -> Result<u8, &'static str>
+pub(crate) fn percent_of(text: &str, refused: &'static str) -> Result<u8, &'static str>
     ensures { IfOk result (λ percent. percent ≡ option_number text.now) }
 {
     match text.parse::<u8>() {
         Ok(percent) => Ok(percent),
-        Err(_) => Err("a percentage is a number from 0 to 255"),
+        Err(_) => Err(refused),
     }
 }
 

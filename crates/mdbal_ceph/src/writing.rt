@@ -1,6 +1,6 @@
 //! What is written of a plan: the text for standard output, and the files.
-ghost use Rattle.std.specs.Prelude.{◌≡◌, IfOk};
-ghost use Rattle.ceph_pins.specs.PinsScript.{pins_script};
+ghost use Rattle.std.specs.Prelude.{◌≡◌, IfErr, IfOk, is_some, true};
+ghost use Rattle.mdbal_ceph.specs.NotMade.{IsWritingFault};
 ghost use Rattle.ceph_report.specs.Staying.{AreStays};
 ghost use Rattle.mdbal_ceph.specs.Writing.{AreFacts, ArePinFiles, IsTold, IsWritten};
 ghost use Rattle.mdbal_ceph.specs.Writing.{IsDriverText, gain_of, identity_of, least_for, plan_status};
@@ -9,13 +9,11 @@ ghost use Rattle.mdbal_ceph.specs.Writing.{as_now, bound_now, other_now, other_p
 ghost use Rattle.mdbal_ceph.specs.Writing.{worst_planned};
 
 use crate::driver_plan::make_driver_text;
+use crate::no_result::NoResult;
 use crate::outcome::Outcome;
 use crate::settings::{Least, PlanSettings};
-use anyhow::{Error, bail};
 use ceph_dumps::FileSystem;
-use ceph_pins::{
-    MountedFileSystem, ScriptError, changes_back, make_own_list, make_pins_script, standing_pins,
-};
+use ceph_pins::{MountedFileSystem, changes_back, make_own_list, make_pins_script, standing_pins};
 use ceph_plan::{Gain, LeastGain, PinChange, is_worth_it};
 use ceph_report::{
     Facts, Move, PlannedHour, Roots, Stay, hottest, inodes_brought, make_json, make_picture,
@@ -255,26 +253,6 @@ fn changes_of(outcome: &Outcome, is_proposed: bool) -> &[PinChange]
     }
 }
 
-/// The script of these changes.
-fn script_of(
-    alloc: Global,
-    mounted: MountedFileSystem,
-    directories: &[Directory],
-    changes: &[PinChange],
-) -> Result<Vec<u8>, Error>
-    ensures { IfOk result (λ script. script.items ≡ pins_script mounted.entry.mount.now mounted.entry.name.now
-        mounted.entry.fsid.now mounted.entry.by_ceph directories.now changes.now) }
-{
-    match make_pins_script(alloc, mounted, directories, changes) {
-        Ok(script) => Ok(script),
-        Err(ScriptError::Memory) => bail!("out of memory"),
-        Err(ScriptError::Nul) => bail!("a path or the mount has a NUL byte"),
-        Err(ScriptError::NoDirectory(row)) => bail!(
-            "a change names directory {row}, which does not exist"
-        ),
-    }
-}
-
 /// What names a plan: the file system and its cluster.
 fn identity_of(alloc: Global, file_system: &FileSystem) -> Result<Vec<u8>, AllocError>
     ensures { IfOk result (λ identity. identity.items ≡ identity_of file_system.now) }
@@ -309,8 +287,10 @@ fn pin_files(
     settings: &PlanSettings,
     outcome: &Outcome,
     is_proposed: bool,
-) -> Result<PinFiles, Error>
-    ensures { IfOk result (ArePinFiles settings.now outcome.now (proposed_changes outcome.now is_proposed)) }
+) -> Result<PinFiles, NoResult>
+    requires { is_some settings.now.pins ≡ true }
+    ensures files { IfOk result (ArePinFiles settings.now outcome.now (proposed_changes outcome.now is_proposed)) }
+    ensures failed { IfErr result (IsWritingFault settings.now outcome.now) }
 {
     let directories = outcome.directories.as_slice();
     let rows = outcome.decision.proposal.rows.as_slice();
@@ -323,8 +303,8 @@ fn pin_files(
     };
     let back = changes_back(alloc, rows, changes)?;
     Ok(PinFiles {
-        script: script_of(alloc, mounted, directories, changes)?,
-        back: script_of(alloc, mounted, directories, &back)?,
+        script: make_pins_script(alloc, mounted, directories, changes)?,
+        back: make_pins_script(alloc, mounted, directories, &back)?,
         own: make_own_list(alloc, directories, rows, changes)?,
         plan: driver_text(alloc, outcome, changes)?,
     })
@@ -336,9 +316,10 @@ pub fn written(
     settings: &PlanSettings,
     outcome: &Outcome,
     hour_record: Option<Vec<u8>>,
-) -> Result<PlanOutput, Error>
+) -> Result<PlanOutput, NoResult>
     ensures written { IfOk result (IsWritten settings.now outcome.now) }
     ensures hour_record { IfOk result (λ output. output.hour_record ≡ hour_record) }
+    ensures failed { IfErr result (IsWritingFault settings.now outcome.now) }
 {
     let (gain, least) = (gain_of(outcome), least_for(settings.least, outcome.ranks));
     let (is_worth, is_idle) = (is_worth_it(gain, least), gain.heat < least.heat);

@@ -2,12 +2,14 @@ use Rattle.std.proofs.Common.{◌≡◌, ◌++◌, List, append-nil, subst, sym}
 use Rattle.ceph_dumps.specs.declared.loads.FragmentHeat.{FragmentHeat}
 use Rattle.ceph_snapshot.specs.Facts.{AreAsTold}
 use Rattle.ceph_snapshot.specs.Sightings.{seen_in}
+use Rattle.std.proofs.lemmas.Result.{err_from_is_err_and}
+use Rattle.mdbal_ceph.proofs.Faults.{growth_in, growth_is}
 use Rattle.mdbal_ceph.proofs.collected.add_loads.Goals as goal
 
-pub returns : goal.returns
-returns g c = (
+pub returns-clause-added : goal.returns-clause-added
+returns-clause-added g c = (
   c.in_ok-loads.loads.items,
-  rw (c.as_str-name.ensures.value, c.in_ok-path.ensures, c.number.ensures.value) at c.in_ok-loads.ensures,
+  c.in_ok-loads.ensures.loads,
   record {
     seen_more = subst (λ (those : List FragmentHeat). c.add_loads.new.self.tree.seen ≡ c.args.gathering.now.tree.seen ++ seen_in c.args.rank those) c.as_slice.ensures.value
         c.in_ok-add_loads.ensures.seen;
@@ -16,3 +18,13 @@ returns g c = (
     numbered = c.add_loads.ensures.numbered;
   },
 )
+
+pub returns-in_err-loads-clause-failed : goal.returns-in_err-loads-clause-failed
+returns-in_err-loads-clause-failed g c = λ rank sample.
+    let e = err_from_is_err_and c.from_residual.result c.from_residual.ensures.1 in
+    rw (e.1, e.2) (c.in_err-loads.ensures.failed rank sample)
+
+pub returns-in_err-add_loads-clause-failed : goal.returns-in_err-add_loads-clause-failed
+returns-in_err-add_loads-clause-failed g c = λ rank sample.
+    let e = err_from_is_err_and c.from_residual-in_err-add_loads.result c.from_residual-in_err-add_loads.ensures.1 in
+    rw (e.1, e.2) (growth_in (g.F.Folder.reads c.args.source.now.files.now) g.D.DumpReader.says g.D.DumpReader.refuses c.args.source.now.folder.now _ (growth_is _))

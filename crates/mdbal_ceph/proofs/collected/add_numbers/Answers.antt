@@ -2,10 +2,12 @@ use Rattle.std.proofs.Common.{◌≡◌, ◌∙◌, ◌++◌, List, Option, Some
 use Rattle.ceph_dumps.specs.declared.listing.ListedDir.{ListedDir}
 use Rattle.mdbal_ceph.specs.Collections.{HasGathered}
 use Rattle.mdbal_ceph.specs.Dumps.{listed_facts}
+use Rattle.std.proofs.lemmas.Result.{err_from_is_err_and}
+use Rattle.mdbal_ceph.proofs.Faults.{growth_is}
 use Rattle.mdbal_ceph.proofs.collected.add_numbers.Goals as goal
 
-pub returns-in_ok-add_numbers : goal.returns-in_ok-add_numbers
-returns-in_ok-add_numbers g c = λ seen facts was.
+pub returns-clause-added : goal.returns-clause-added
+returns-clause-added g c = λ seen facts was.
     let is : c.args.source.now.mounted ≡ Some c.listing.result.now = search rules in
     subst (λ (listed : Option (List ListedDir)). HasGathered seen (facts ++ listed_facts listed) false (is_some listed) c.add_numbers.new.self) (sym is)
     (record {
@@ -14,3 +16,8 @@ returns-in_ok-add_numbers g c = λ seen facts was.
       listed_is = c.add_numbers.ensures.listed ∙ was.listed_is;
       numbered_is = c.in_ok-add_numbers.ensures.numbered;
     })
+
+pub returns-in_err-add_numbers-clause-failed : goal.returns-in_err-add_numbers-clause-failed
+returns-in_err-add_numbers-clause-failed g c =
+    let e = err_from_is_err_and c.from_residual.result c.from_residual.ensures.1 in
+    rw (e.1, e.2) (growth_is _)

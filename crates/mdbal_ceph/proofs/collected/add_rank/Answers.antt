@@ -1,4 +1,4 @@
-use Rattle.std.proofs.Common.{◌≡◌, ◌++◌, ◌∷◌, [], ℕ, List, append-nil, arith, refl, subst, sym}
+use Rattle.std.proofs.Common.{◌+◌, ◌≤◌, ◌≡◌, ◌++◌, ◌∷◌, [], ℕ, List, append-nil, arith, refl, subst, sym}
 use Rattle.std.specs.List.{flat_map}
 use Rattle.ceph_dumps.specs.declared.loads.FragmentHeat.{FragmentHeat}
 use Rattle.ceph_snapshot.specs.Facts.{roots_in}
@@ -6,6 +6,7 @@ use Rattle.ceph_snapshot.specs.Sightings.{PathHeat, seen_in}
 use Rattle.mdbal_ceph.specs.Collections.{Adds}
 use Rattle.mdbal_ceph.specs.Dumps.{AreSamples}
 use Rattle.mdbal_ceph.proofs.Gathered.{adds_both, adds_none, piece_more, samples_more, samples_none}
+use Rattle.std.proofs.lemmas.Result.{err_from_is_err_and}
 use Rattle.mdbal_ceph.proofs.collected.add_rank.Goals as goal
 
 pub loop-sample-init : goal.loop-sample-init
@@ -18,7 +19,7 @@ loop-sample-init g c = (
 pub loop-sample-preserved : goal.loop-sample-preserved
 loop-sample-preserved g c =
     let was = c.loop-sample.invariant in
-    let here = c.in_ok-add_loads.ensures in
+    let here = c.in_ok-add_loads.ensures.added in
     let samples : List (List FragmentHeat) = was.0 in
     let loads : List FragmentHeat = here.0 in (
       samples ++ loads ∷ [],
@@ -27,10 +28,10 @@ loop-sample-preserved g c =
           (adds_both c.add_subtrees.new.gathering c.loop-sample.gathering c.add_loads.new.gathering (flat_map (seen_in c.args.rank) samples) (seen_in c.args.rank loads) [] [] was.2 here.2),
     )
 
-pub returns : goal.returns
-returns g c =
+pub returns-clause-added : goal.returns-clause-added
+returns-clause-added g c =
     let was = c.loop-sample.invariant in
-    let sub = c.in_ok-add_subtrees.ensures in
+    let sub = c.in_ok-add_subtrees.ensures.added in
     let samples : List (List FragmentHeat) = was.0 in
     let all : c.loop-sample.sample ≡ c.args.source.now.samples = omega (arith, c.loop-sample-test.false, c.loop-sample.auto.sample-end) in (
       record { rank = c.args.rank; roots = sub.0; samples = samples },
@@ -42,3 +43,18 @@ returns g c =
       subst (Adds c.args.gathering.now c.loop-sample.gathering (flat_map (seen_in c.args.rank) samples)) (append-nil (roots_in c.args.rank sub.0))
           (adds_both c.args.gathering.now c.add_subtrees.new.gathering c.loop-sample.gathering [] (flat_map (seen_in c.args.rank) samples) (roots_in c.args.rank sub.0) [] sub.2 was.2),
     )
+
+pub returns-in_err-add_subtrees-clause-failed : goal.returns-in_err-add_subtrees-clause-failed
+returns-in_err-add_subtrees-clause-failed g c = λ read rank.
+    let e = err_from_is_err_and c.from_residual.result c.from_residual.ensures.1 in
+    rw (e.1, e.2) (c.in_err-add_subtrees.ensures.failed read rank)
+
+pub returns-in_err-add_loads-clause-failed : goal.returns-in_err-add_loads-clause-failed
+returns-in_err-add_loads-clause-failed g c = λ read rank.
+    let e = err_from_is_err_and c.from_residual-in_err-add_loads.result c.from_residual-in_err-add_loads.ensures.1 in
+    rw (e.1, e.2) (c.in_err-add_loads.ensures.failed rank (
+      c.args.source.now.samples,
+      read.count_is,
+      (let one : 1 ≤ c.loop-sample.sample + 1 = omega arith in one),
+      (let few : c.loop-sample.sample + 1 ≤ c.args.source.now.samples = omega (arith, c.loop-sample-test.true) in few),
+    ))

@@ -2,12 +2,13 @@ use Rattle.std.proofs.Common.{◌≡◌, ◌++◌, ℕ, List, arith, subst, sym}
 use Rattle.mds_types.specs.declared.limits.TheConstants.{RANK_LIMIT}
 use Rattle.mdbal_ceph.specs.Dumps.{AreRankDumps, RankDump, ranks_below, ranks_if}
 use Rattle.mdbal_ceph.proofs.Gathered.{adds_dumps, dumps_both, ranks_more}
+use Rattle.std.proofs.lemmas.Result.{err_from_is_err_and}
 use Rattle.mdbal_ceph.proofs.collected.add_ranks.Goals as goal
 
 pub loop-number-preserved : goal.loop-number-preserved
 loop-number-preserved g c =
     let was = c.loop-number.invariant in
-    let here = c.in_ok-add_rank_if_in.ensures in
+    let here = c.in_ok-add_rank_if_in.ensures.added in
     let reads = g.F.Folder.reads c.args.source.now.files.now in
     let says = g.D.DumpReader.says in
     let dumps : List RankDump = was.0 in
@@ -19,11 +20,16 @@ loop-number-preserved g c =
       adds_dumps c.args.gathering.now c.loop-number.gathering c.add_rank_if_in.new.gathering dumps one was.2 here.2,
     )
 
-pub returns : goal.returns
-returns g c =
+pub returns-clause-added : goal.returns-clause-added
+returns-clause-added g c =
     let was = c.loop-number.invariant in
     let all : c.loop-number.number ≡ RANK_LIMIT = omega (arith, c.loop-number-test.false, c.loop-number.auto.number-end) in (
       was.0,
       subst (λ (n : ℕ). AreRankDumps (g.F.Folder.reads c.args.source.now.files.now) g.D.DumpReader.says c.args.source.now.mounted c.args.source.now.folder.now c.args.source.now.samples (ranks_below c.args.ranks n) was.0) all was.1,
       was.2,
     )
+
+pub returns-in_err-add_rank_if_in-clause-failed : goal.returns-in_err-add_rank_if_in-clause-failed
+returns-in_err-add_rank_if_in-clause-failed g c = λ read ranks.
+    let e = err_from_is_err_and c.from_residual.result c.from_residual.ensures.1 in
+    rw (e.1, e.2) (c.in_err-add_rank_if_in.ensures.failed read ranks)

@@ -1,18 +1,33 @@
-use Rattle.std.proofs.Common.{◌∙◌, ◌++◌, List, append-nil, subst, sym}
+use Rattle.std.proofs.Common.{Err, ap, ◌∙◌, ◌++◌, List, append-nil, subst, sym}
 use Rattle.ceph_dumps.specs.declared.subtrees.SubtreeRoot.{SubtreeRoot}
 use Rattle.ceph_snapshot.specs.Facts.{AreAsTold, roots_in}
+use Rattle.std.proofs.lemmas.Result.{err_from_is_err_and}
+use Rattle.mdbal_ceph.proofs.Faults.{claim_in, twice_claimed}
 use Rattle.mdbal_ceph.proofs.collected.add_subtrees.Goals as goal
 
-pub returns : goal.returns
-returns g c = (
+pub returns-in-Ok-clause-added : goal.returns-in-Ok-clause-added
+returns-in-Ok-clause-added g c = (
   c.in_ok-roots.roots.items,
-  rw (c.as_str.ensures.value, c.in_ok-path.ensures, c.number.ensures.value) at c.in_ok-roots.ensures,
+  c.in_ok-roots.ensures.roots,
   record {
     seen_more = c.add_subtrees.ensures.seen ∙ sym (append-nil c.args.gathering.now.tree.seen);
     told = λ before is.
         subst (λ (those : List SubtreeRoot). AreAsTold c.add_subtrees.new.self.tree.nodes (before ++ roots_in c.args.rank those)) c.as_slice.ensures.value
-        (c.in_ok-add_subtrees.ensures.told before is);
+        (c.in-Ok.ensures.told before is);
     listed = c.add_subtrees.ensures.listed;
     numbered = c.add_subtrees.ensures.numbered;
   },
 )
+
+pub returns-in_err-roots-clause-failed : goal.returns-in_err-roots-clause-failed
+returns-in_err-roots-clause-failed g c = λ read rank.
+    let e = err_from_is_err_and c.from_residual.result c.from_residual.ensures.1 in
+    rw (e.1, e.2) (c.in_err-roots.ensures.failed rank)
+
+pub returns-clause-failed : goal.returns-clause-failed
+returns-clause-failed g c = λ read rank.
+    rw c.claim_error.ensures
+    (claim_in (g.F.Folder.reads c.args.source.now.files.now) g.D.DumpReader.says g.D.DumpReader.refuses c.args.source.now.folder.now c.in-Err.error
+    (λ path one two is.
+    twice_claimed (g.F.Folder.reads c.args.source.now.files.now) g.D.DumpReader.says g.D.DumpReader.refuses c.args.source.now.folder.now c.args.rank c.args.source.now.mounted c.in_ok-roots.roots.items c.as_slice.result.now c.add_subtrees.new.self.fragments path one two
+    read.numbers_are rank c.in_ok-roots.ensures.roots c.as_slice.ensures.value (c.in-Err.ensures.twice path one two (ap Err is))))

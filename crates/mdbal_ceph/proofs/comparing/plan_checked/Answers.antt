@@ -1,7 +1,7 @@
 use Rattle.mdbal_ceph.proofs.comparing.plan_checked.Goals as goal
 
-pub returns : goal.returns
-returns g c = λ name file. record {
+pub returns-clause-checked : goal.returns-clause-checked
+returns-clause-checked g c = λ name file. record {
   stored = c.args.stored.now;
   collected = c.in_ok-collected.collected;
   file = file;

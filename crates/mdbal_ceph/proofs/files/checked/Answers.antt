@@ -1,7 +1,7 @@
 use Rattle.mdbal_ceph.proofs.files.checked.Goals as goal
 
-pub returns : goal.returns
-returns g c = record {
+pub returns-clause-checked : goal.returns-clause-checked
+returns-clause-checked g c = record {
   collected = c.in_ok-collected.collected;
   read = c.in_ok-collected.ensures.collected;
   ours = c.in_ok-collected.ensures.ours;

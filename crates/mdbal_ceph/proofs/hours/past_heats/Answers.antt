@@ -1,5 +1,6 @@
-use Rattle.std.proofs.Common.{◌≡◌, ◌∙◌, ◌<◌, ◌∷◌, ◌++◌, [], ℕ, Global, List, Vec, ap, length, subst, sym, take}
+use Rattle.std.proofs.Common.{◌≡◌, ◌∙◌, ◌<◌, ◌∷◌, ◌++◌, [], ℕ, Global, List, Vec, ap, inr, length, subst, sym, take}
 use Rattle.std.proofs.lemmas.List.{take_more}
+use Rattle.std.proofs.lemmas.Result.{err_from_is_err_and}
 use Rattle.std.proofs.lemmas.List.Elements.{All-push}
 use Rattle.ceph_dumps.specs.OneForOne.{AreOneForOne}
 use Rattle.ceph_dumps.proofs.Records.{one_more}
@@ -18,7 +19,7 @@ loop-hour-preserved c =
     let heats : Vec ℕ Global = c.in_ok-heats_at.field-0 in
     let inside : at < length earlier = c.loop-hour-test.true in
     let is : EarlierHour → Vec ℕ Global → Type 0 = λ one seen. IsSeenAt directories one.kept seen in
-    let here : is hour heats = c.in_ok-heats_at.ensures in
+    let here : is hour heats = c.in_ok-heats_at.ensures.seen in
     let sizes : AreHoursOf (length directories) (c.loop-hour.hours.items ++ heats ∷ []) =
     All-push (λ (seen : Vec ℕ Global). length seen.items ≡ length directories) c.loop-hour.hours.items heats c.loop-hour.invariant.sizes here.heats_then.size in
     record {
@@ -29,3 +30,8 @@ loop-hour-preserved c =
           (one_more is (take at earlier) c.loop-hour.hours.items hour heats c.loop-hour.invariant.each here));
       sizes = subst (AreHoursOf (length directories)) (sym {A = List (Vec ℕ Global)} c.in_ok-push.ensures.items) sizes;
     }
+
+pub returns-in_err-heats_at-clause-failed : goal.returns-in_err-heats_at-clause-failed
+returns-in_err-heats_at-clause-failed c =
+    let e = err_from_is_err_and c.from_residual-in_err-heats_at.result c.from_residual-in_err-heats_at.ensures.1 in
+    rw (e.1, e.2) (inr (c.hour-item.result, (c.loop-hour.hour-index, (c.loop-hour-test.true, c.hour-item.is)), c.in_err-heats_at.ensures.failed))

@@ -1,4 +1,5 @@
-use Rattle.std.proofs.Common.{◌≡◌, ◌≤◌, ◌^◌, ◌∙◌, ℕ, Bool, List, ap, arith, false, length, slice_index, subst, sym, true}
+use Rattle.std.proofs.Common.{◌≡◌, ◌≤◌, ◌^◌, ◌∙◌, ℕ, Bool, List, ap, arith, false, inl, inr, length, slice_index, subst, sym, true}
+use Rattle.std.proofs.lemmas.Result.{err_from_is_err_and}
 use Rattle.std.specs.Prelude.{Vec}
 use Rattle.std.specs.Global.{Global}
 use Rattle.mds_types.specs.RankSet.{has_rank}
@@ -13,6 +14,7 @@ use Rattle.mdbal_ceph.specs.declared.hours.PastHour.{PastHour}
 use Rattle.mdbal_ceph.specs.declared.outcome.Decision.{Decision}
 use Rattle.mdbal_ceph.specs.declared.past.EarlierHour.{EarlierHour}
 use Rattle.mdbal_ceph.specs.declared.planning.PlanAsked.{PlanAsked}
+use Rattle.mdbal_ceph.proofs.Faults.{growth_is}
 use Rattle.mdbal_ceph.proofs.Kept.{kept_through}
 use Rattle.mdbal_ceph.proofs.PastHours.{past_sizes, past_spreads, same_length}
 use Rattle.mdbal_ceph.proofs.PresentPinned.{present_pinned}
@@ -52,7 +54,7 @@ decided-requires-clause-spreads c =
 
 pub heats_bound-bound-requires : goal.heats_bound-bound-requires
 heats_bound-bound-requires c =
-    let planned = c.in_ok-decision.ensures.planned in
+    let planned = c.in_ok-decision.ensures.decision.planned in
     let plan = planned.plan in
     subst (ArePlanRanks c.in_ok-ranks.ranks) (sym c.deref-13.ensures.value) (record {
       zero = subst (λ ranks. has_rank ranks 0 ≡ true) c.asked_by-asked.ensures.ranks plan.found_is.proposal.chosen.plannable.zero;
@@ -112,7 +114,7 @@ returns-clause-outcome c =
       decided =
           subst (λ (others : List PastHour). IsDecision directories spread leave others asked decision) c.deref-11.ensures.value
           (subst (λ (heats : List ℕ). IsDecision directories heats leave c.deref-11.result.now asked decision) c.deref-10.ensures.value
-          (subst (λ (others : List Directory). IsDecision others c.deref-10.result.now leave c.deref-11.result.now asked decision) c.deref-9.ensures.value c.in_ok-decision.ensures));
+          (subst (λ (others : List Directory). IsDecision others c.deref-10.result.now leave c.deref-11.result.now asked decision) c.deref-9.ensures.value c.in_ok-decision.ensures.decision));
       hottest = record {
         heats = heats;
         are = subst (λ (those : List Directory). AreFreeHeats those heats) c.deref-2.ensures.value c.in_ok-heats.ensures;
@@ -127,3 +129,87 @@ returns-clause-outcome c =
           (subst (λ (those : List Directory). AreFreeHeats those heats) c.deref-2.ensures.value c.in_ok-heats.ensures) c.deref-12.ensures.value c.deref-13.ensures.value
           c.heats_bound-bound.ensures.lower c.heats_bound-bound.ensures.three;
     }
+
+pub returns-in_err-refuse_others-clause-failed : goal.returns-in_err-refuse_others-clause-failed
+returns-in_err-refuse_others-clause-failed c =
+    let e = err_from_is_err_and c.from_residual.result c.from_residual.ensures.1 in
+    rw (e.1, e.2) (inr (inl c.in_err-refuse_others.ensures.failed))
+
+pub returns-in_err-ranks-clause-failed : goal.returns-in_err-ranks-clause-failed
+returns-in_err-ranks-clause-failed c =
+    let e = err_from_is_err_and c.from_residual-in_err-ranks.result c.from_residual-in_err-ranks.ensures.1 in
+    rw (e.1, e.2) (inr (inr (inl c.in_err-ranks.ensures.failed)))
+
+pub returns-in_err-hours-clause-failed : goal.returns-in_err-hours-clause-failed
+returns-in_err-hours-clause-failed c =
+    let e = err_from_is_err_and c.from_residual-in_err-hours.result c.from_residual-in_err-hours.ensures.1 in
+    rw (e.1, e.2) (inr (inr (inr (inl (rw c.deref.ensures.value at c.in_err-hours.ensures.failed)))))
+
+pub returns-in_err-units-clause-failed : goal.returns-in_err-units-clause-failed
+returns-in_err-units-clause-failed c =
+    let e = err_from_is_err_and c.from_residual-in_err-units.result c.from_residual-in_err-units.ensures.1 in
+    rw (e.1, e.2) (inl (growth_is _))
+
+pub returns-in_err-directories-clause-failed : goal.returns-in_err-directories-clause-failed
+returns-in_err-directories-clause-failed c =
+    let e = err_from_is_err_and c.from_residual-in_err-directories.result c.from_residual-in_err-directories.ensures.1 in
+    rw (e.1, e.2) (inl (growth_is _))
+
+pub returns-in_err-decision-clause-failed : goal.returns-in_err-decision-clause-failed
+returns-in_err-decision-clause-failed c =
+    let e = err_from_is_err_and c.from_residual-in_err-decision.result c.from_residual-in_err-decision.ensures.1 in
+    rw (e.1, e.2)
+    (inr (inr (inr (inr (record {
+      ranks = c.in_ok-ranks.ranks;
+      ranks_are = c.in_ok-ranks.ensures.ranks;
+      units = c.in_ok-units.units.items;
+      units_are = c.in_ok-units.ensures.units;
+      directories = c.in_ok-directories.directories.items;
+      few = c.in_ok-directories.ensures.few;
+      same = c.in_ok-directories.ensures.same;
+      folded = c.in_ok-directories.ensures.folded;
+      past = c.in_ok-past.past.items;
+      past_are = record {
+        seen = c.in_ok-hours.hours.items;
+        seen_are = rw c.deref.ensures.value at c.in_ok-hours.ensures.each;
+        at_units = c.units.new.hours.items;
+        at_units_are = c.in_ok-units.ensures.hours;
+        heats = c.folded.new.hours.items;
+        heats_are = c.in_ok-directories.ensures.hours;
+        are = record { heats_are = rw c.deref-7.ensures.value at c.in_ok-past.ensures.heats; spread = c.in_ok-past.ensures.spread };
+      };
+      asked = c.asked_by-asked.result;
+      asked_is = record {
+        wanted_is = c.asked_by-asked.ensures.wanted;
+        ranks_are = c.asked_by-asked.ensures.ranks;
+        names = rw (c.asked_by-asked.ensures.names, c.deref-8.ensures.value) c.in_ok-names.ensures;
+        chosen = c.asked_by-asked.ensures.chosen;
+        made = c.asked_by-asked.ensures.made;
+      };
+      refused = rw (c.deref-9.ensures.value, c.deref-10.ensures.value, c.deref-11.ensures.value) at c.in_err-decision.ensures.failed;
+    })))))
+
+pub returns-in_err-heats-clause-failed : goal.returns-in_err-heats-clause-failed
+returns-in_err-heats-clause-failed c =
+    let e = err_from_is_err_and c.from_residual-in_err-heats.result c.from_residual-in_err-heats.ensures.1 in
+    rw (e.1, e.2) (inl tt)
+
+pub returns-in_err-hottest-clause-failed : goal.returns-in_err-hottest-clause-failed
+returns-in_err-hottest-clause-failed c =
+    let e = err_from_is_err_and c.from_residual-in_err-hottest.result c.from_residual-in_err-hottest.ensures.1 in
+    rw (e.1, e.2) (inl tt)
+
+pub returns-in_err-advice-clause-failed : goal.returns-in_err-advice-clause-failed
+returns-in_err-advice-clause-failed c =
+    let e = err_from_is_err_and c.from_residual-in_err-advice.result c.from_residual-in_err-advice.ensures.1 in
+    rw (e.1, e.2) (inl tt)
+
+pub returns-in_err-names-clause-failed : goal.returns-in_err-names-clause-failed
+returns-in_err-names-clause-failed c =
+    let e = err_from_is_err_and c.from_residual-in_err-names.result c.from_residual-in_err-names.ensures.1 in
+    rw (e.1, e.2) (inl tt)
+
+pub returns-in_err-past-clause-failed : goal.returns-in_err-past-clause-failed
+returns-in_err-past-clause-failed c =
+    let e = err_from_is_err_and c.from_residual-in_err-past.result c.from_residual-in_err-past.ensures.1 in
+    rw (e.1, e.2) (inl tt)

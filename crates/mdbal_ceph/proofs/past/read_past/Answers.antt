@@ -1,5 +1,7 @@
-use Rattle.std.proofs.Common.{◌≡◌, ◌∙◌, ◌<◌, ◌+◌, ◌∷◌, ◌++◌, [], ℕ, Bor, List, ap, length, map, slice_index_or, subst, sym, take}
-use Rattle.std.proofs.lemmas.List.{map-append, take_more}
+use Rattle.std.proofs.Common.{◌≡◌, ◌∙◌, ◌<◌, ◌+◌, ◌∷◌, ◌++◌, [], ℕ, Bor, List, ap, inl, length, map, slice_index_or, subst, sym, take}
+use Rattle.std.proofs.lemmas.List.{get_or_default, length-map, map-append, take_more}
+use Rattle.std.proofs.lemmas.Result.{err_from_is_err_and}
+use Rattle.std.specs.List.{IsAmong}
 use Rattle.std.proofs.lemmas.List.Elements.{All-push}
 use Rattle.ceph_dumps.specs.declared.hour_record.HourRecord.{HourRecord}
 use Rattle.mdbal_ceph.specs.Dumps.{DumpValue}
@@ -43,4 +45,18 @@ loop-at-preserved g c =
     let reads : List ℕ → FileContent → Type 0 = g.F.Folder.reads c.args.inputs.now.files.now in
     let says : List ℕ → DumpValue → Type 0 = g.D.DumpReader.says in
     next_more reads says c.args.names.now c.loop-at.at _ c.loop-at.found.items c.push.new.self.items c.in_ok-kept.kept
-    c.loop-at-test.true c.loop-at.invariant c.in_ok-kept.ensures c.in_ok-push.ensures.items
+    c.loop-at-test.true c.loop-at.invariant c.in_ok-kept.ensures.hour c.in_ok-push.ensures.items
+
+-- a name that is read is among them
+among_names : (names : List (Bor (List ℕ))) (at : ℕ) → at < length names
+    → IsAmong (map (λ (name : Bor (List ℕ)). name.now) names) (slice_index_or (map (λ (name : Bor (List ℕ)). name.now) names) at [])
+among_names names at inside =
+    let all : List (List ℕ) = map (λ (name : Bor (List ℕ)). name.now) names in
+    let within : at < length all = subst (λ (n : ℕ). at < n) (sym {A = ℕ} (length-map names (λ (name : Bor (List ℕ)). name.now))) inside in
+    (at, (within, get_or_default all at [] (slice_index_or all at []) within))
+
+pub returns-in_err-push-clause-failed : goal.returns-in_err-push-clause-failed
+returns-in_err-push-clause-failed g c =
+    let all : List (List ℕ) = map (λ (name : Bor (List ℕ)). name.now) c.args.names.now in
+    let e = err_from_is_err_and c.from_residual-in_err-push.result c.from_residual-in_err-push.ensures.1 in
+    rw (e.1, e.2) (slice_index_or all c.loop-at.at [], among_names c.args.names.now c.loop-at.at c.loop-at-test.true, inl tt)

@@ -1,0 +1,245 @@
+-- Why a run has no result.
+use Rattle.std.specs.Prelude.{◌≡◌, ◌≢◌, ◌⊎◌, ◌<◌, ◌≤◌, ⊤, ℕ, Bool, true, false, List, Option, Some, None, Result}
+use Rattle.std.specs.Prelude.{Vec, codes, is_some, length, map, string_bytes}
+use Rattle.std.specs.Global.{Global}
+use Rattle.std.specs.List.{IsAmong}
+use Rattle.mds_types.specs.RankSet.{has_rank}
+use Rattle.ceph_dumps.specs.Balancer.{IsBalancer}
+use Rattle.ceph_dumps.specs.HourRecord.{IsBrokenHour, IsHourError}
+use Rattle.ceph_dumps.specs.Inodes.{IsBrokenRecord}
+use Rattle.ceph_dumps.specs.declared.cluster.FileSystemRanks.{FileSystemRanks}
+use Rattle.ceph_dumps.specs.declared.dump_error.DumpError.{DumpError}
+use Rattle.ceph_dumps.specs.declared.dump_error.DumpError.TheVariants as dump
+use Rattle.ceph_dumps.specs.declared.listing.ListedDir.{ListedDir}
+use Rattle.ceph_dumps.specs.declared.subtrees.SubtreeRoot.{SubtreeRoot}
+use Rattle.ceph_snapshot.specs.Authority.{IsUnclaimed, LieAsClaimed, PathText, fragment_of}
+use Rattle.ceph_snapshot.specs.Doubts.{have_left}
+use Rattle.ceph_snapshot.specs.Facts.{AreAsTold, Fact}
+use Rattle.ceph_snapshot.specs.Shown.{shown_path}
+use Rattle.ceph_snapshot.specs.declared.gathering.Hearsay.{Hearsay}
+use Rattle.ceph_snapshot.specs.declared.snapshot_error.SnapshotError.{SnapshotError}
+use Rattle.ceph_snapshot.specs.declared.snapshot_error.SnapshotError.TheVariants as doubt
+use Rattle.ceph_snapshot.specs.declared.tree.Node.{Node}
+use Rattle.pin_driver.specs.Driven.{IsMark}
+use Rattle.pin_driver.specs.PinPlan.{PlanParts}
+use Rattle.pin_driver.specs.StoredReading.{IsOutOfMemory}
+use Rattle.pin_driver.specs.StoredText.{FitsText, stored_text}
+use Rattle.pin_driver.specs.declared.question.Mark.{Mark}
+use Rattle.pin_driver.specs.declared.text_error.TextError.{TextError}
+use Rattle.mdbal_ceph.specs.Dumps.{AreDumpsOf, AreInodes, AreRanksOf, DumpKind, DumpValue, Dumps, IsRootsFile}
+use Rattle.mdbal_ceph.specs.Dumps.{IsSampleCount}
+use Rattle.mdbal_ceph.specs.Dumps.{OfLoads, OfRanks, OfRoots, Ranks, all_facts, all_seen, file_in, loads_file}
+use Rattle.mdbal_ceph.specs.Dumps.{root_facts}
+use Rattle.mdbal_ceph.specs.Dumps.{subtrees_file}
+use Rattle.mdbal_ceph.specs.Folder.{Failed, FileContent, IsInFile, IsInFileIfAny, Missing}
+use Rattle.mdbal_ceph.specs.declared.no_result.FileFault.{FileFault}
+use Rattle.mdbal_ceph.specs.declared.no_result.FileFault.TheVariants as fault
+use Rattle.mdbal_ceph.specs.declared.no_result.NoResult.{NoResult}
+use Rattle.mdbal_ceph.specs.declared.no_result.NoResult.TheVariants as why
+use Rattle.mdbal_ceph.specs.declared.source.TheConstants.{SAMPLE_LIMIT}
+
+-- memory was refused; or this is wrong with the file of this name
+abbrev pub IsNamedBy : List ℕ → (FileFault → Type 0) → NoResult → Type 0
+IsNamedBy name Is why.Memory = ⊤
+IsNamedBy name Is (why.File told one) = (string_bytes told ≡ name) × Is one
+IsNamedBy name Is other = ⊥
+
+-- memory was refused, or there are more directories than can be numbered
+abbrev pub IsGrowth : NoResult → Type 0
+IsGrowth why.Memory = ⊤
+IsGrowth why.TooMany = ⊤
+IsGrowth other = ⊥
+
+-- a file can't be read: its device failed
+abbrev pub IsUnread : (List ℕ → FileContent → Type 0) → List ℕ → FileFault → Type 0
+IsUnread reads name (fault.Device error) = reads name Failed
+IsUnread reads name other = ⊥
+
+-- or there is none
+abbrev pub IsNoBytes : (List ℕ → FileContent → Type 0) → List ℕ → FileFault → Type 0
+IsNoBytes reads name (fault.Device error) = reads name Failed
+IsNoBytes reads name fault.Missing = reads name Missing
+IsNoBytes reads name other = ⊥
+
+-- or its bytes are refused
+abbrev pub IsListFault : (List ℕ → FileContent → Type 0) → (List ℕ → DumpError → Type 0) → List ℕ → FileFault
+    → Type 0
+IsListFault reads Refuses name (fault.Device error) = reads name Failed
+IsListFault reads Refuses name fault.Missing = reads name Missing
+IsListFault reads Refuses name (fault.Refused error) = IsInFile reads Refuses name error
+IsListFault reads Refuses name other = ⊥
+
+-- no clause says what a list of pins or of directories, a listing, and the file `complete` are refused for
+abbrev pub IsAnyError : List ℕ → DumpError → Type 0
+IsAnyError bytes error = ⊤
+
+-- what is wrong with the list of this name, where one is named
+abbrev pub IsListedFault : (List ℕ → FileContent → Type 0) → Option (List ℕ) → NoResult → Type 0
+IsListedFault reads None error = ⊥
+IsListedFault reads (Some name) error = IsNamedBy name (IsListFault reads IsAnyError name) error
+
+-- a folder, and its files
+pub data DumpFile : Type 0 where
+  Itself : DumpFile
+  Complete : DumpFile
+  Map : DumpFile
+  Balancer : DumpFile
+  Numbers : DumpFile
+  Listing : DumpFile
+  Counted : ℕ → DumpFile
+  OfRank : ℕ → DumpFile
+  Sample : ℕ → ℕ → DumpFile
+
+abbrev pub dump_name : List ℕ → DumpFile → List ℕ
+dump_name folder Itself = folder
+dump_name folder Complete = file_in folder (codes "complete")
+dump_name folder Map = file_in folder (codes "fs.json")
+dump_name folder Balancer = file_in folder (codes "balancer")
+dump_name folder Numbers = file_in folder (codes "inodes")
+dump_name folder Listing = file_in folder (codes "dirs")
+dump_name folder (Counted sample) = loads_file folder 0 sample
+dump_name folder (OfRank rank) = subtrees_file folder rank
+dump_name folder (Sample rank sample) = loads_file folder rank sample
+
+-- what has to be there
+abbrev pub IsNeeded : DumpFile → Type 0
+IsNeeded Map = ⊤
+IsNeeded (OfRank rank) = ⊤
+IsNeeded (Sample rank sample) = ⊤
+IsNeeded other = ⊥
+
+abbrev pub IsFolder : DumpFile → Type 0
+IsFolder Itself = ⊤
+IsFolder other = ⊥
+
+abbrev pub IsEnd : DumpFile → Type 0
+IsEnd Complete = ⊤
+IsEnd other = ⊥
+
+-- what the reader of a file refuses, as far as it says so
+abbrev pub IsNoNumbers : List ℕ → DumpError → Type 0
+IsNoNumbers bytes error = (number : ℕ) → error ≡ dump.Record number → IsBrokenRecord bytes number
+
+abbrev pub IsNoBalancer : List ℕ → DumpError → Type 0
+IsNoBalancer bytes error = (is_on : Bool) → IsBalancer bytes is_on → ⊥
+
+abbrev pub IsNoHour : List ℕ → DumpError → Type 0
+IsNoHour bytes error =
+    IsHourError error × ((number : ℕ) → error ≡ dump.Hour number → IsBrokenHour bytes number)
+
+abbrev pub IsNoStored : List ℕ → TextError → Type 0
+IsNoStored bytes error =
+    (plan : PlanParts) (mark : Mark) → FitsText plan mark → IsMark mark (length plan.changes)
+    → bytes ≡ stored_text plan mark → IsOutOfMemory error
+
+abbrev pub IsRefusedFile : (DumpKind → List ℕ → DumpError → Type 0) → DumpFile → List ℕ → DumpError → Type 0
+IsRefusedFile refuses Map = refuses OfRanks
+IsRefusedFile refuses (OfRank rank) = refuses OfRoots
+IsRefusedFile refuses (Sample rank sample) = refuses OfLoads
+IsRefusedFile refuses Balancer = IsNoBalancer
+IsRefusedFile refuses Numbers = IsNoNumbers
+IsRefusedFile refuses Complete = IsAnyError
+IsRefusedFile refuses Listing = IsAnyError
+IsRefusedFile refuses Itself = λ bytes error. ⊥
+IsRefusedFile refuses (Counted sample) = λ bytes error. ⊥
+
+module _ (reads : List ℕ → FileContent → Type 0) (says : List ℕ → DumpValue → Type 0)
+    (refuses : DumpKind → List ℕ → DumpError → Type 0) where
+  -- what may be wrong with a file of a folder, where this is its name
+  abbrev pub IsFileCause : List ℕ → DumpFile → FileFault → Type 0
+  IsFileCause name file (fault.Device error) = reads name Failed
+  IsFileCause name file fault.Missing = IsNeeded file × reads name Missing
+  IsFileCause name file fault.NoFolder = IsFolder file × reads name Missing
+  IsFileCause name file fault.Unfinished = IsEnd file × reads name Missing
+  IsFileCause name file (fault.Refused error) = IsInFile reads (IsRefusedFile refuses file) name error
+  IsFileCause name file (fault.Stored error) = ⊥
+
+  -- a rank of the file system, and the number of a sample
+  abbrev pub IsRankIn : List ℕ → ℕ → Type 0
+  IsRankIn folder rank =
+      (cluster : FileSystemRanks) × IsInFile reads says (file_in folder (codes "fs.json")) (Ranks cluster)
+      × (has_rank cluster.ranks rank ≡ true)
+
+  abbrev pub IsSampleIn : List ℕ → ℕ → Type 0
+  IsSampleIn folder sample =
+      (count : ℕ) × IsSampleCount reads folder count × (1 ≤ sample) × (sample ≤ count)
+
+  -- the files that are read: of each rank of the file system the roots, and as many samples as rank 0 gave
+  abbrev pub IsToRead : List ℕ → DumpFile → Type 0
+  IsToRead folder (Counted sample) = (1 < sample) × (sample ≤ SAMPLE_LIMIT)
+  IsToRead folder (OfRank rank) = IsRankIn folder rank
+  IsToRead folder (Sample rank sample) = IsRankIn folder rank × IsSampleIn folder sample
+  IsToRead folder other = ⊤
+
+  -- how a folder is read: with these inode numbers, where they were listed, and with so many samples of each rank
+  pub record IsReadWith (folder : List ℕ) (numbers : Option (List ListedDir)) (count : ℕ) : Type 0 where
+    pub numbers_are : IsInFileIfAny reads AreInodes (file_in folder (codes "inodes")) numbers
+    pub count_is : IsSampleCount reads folder count
+
+  -- these are ranks of the file system
+  abbrev pub AreRanksIn : List ℕ → ℕ → Type 0
+  AreRanksIn folder ranks = (rank : ℕ) → has_rank ranks rank ≡ true → IsRankIn folder rank
+
+  -- by a root in its dump the second rank claims a fragment of this directory, which is not the first rank
+  pub record IsTwiceClaimed (folder path : List ℕ) (first second : ℕ) : Type 0 where
+    pub rank : IsRankIn folder second
+    pub numbers : Option (List ListedDir)
+    pub numbers_are : IsInFileIfAny reads AreInodes (file_in folder (codes "inodes")) numbers
+    pub roots : List SubtreeRoot
+    pub roots_are : IsRootsFile reads says numbers (subtrees_file folder second) roots
+    pub root : SubtreeRoot
+    pub among : IsAmong roots root
+    pub here : root.is_here ≡ true
+    pub fragment : is_some (fragment_of root) ≡ true
+    pub path_is : path ≡ shown_path root.path.items
+    pub other : first ≢ second
+
+  -- what the dumps say of directories: those of the ranks, or all of them
+  pub record AreToldIn (folder : List ℕ) (facts : List Fact) : Type 0 where
+    pub dumps : Dumps
+    pub ranks : AreRanksOf reads says folder dumps
+    pub are : (facts ≡ root_facts dumps.ranks)
+        ⊎ (AreDumpsOf reads says folder dumps × (facts ≡ all_facts dumps))
+
+  -- by all claims the directory of this path isn't at the rank that another one takes for its authority
+  pub record IsUnclaimedIn (folder : List ℕ) (path : PathText) (by authority : ℕ) : Type 0 where
+    pub facts : List Fact
+    pub facts_are : AreToldIn folder facts
+    pub nodes : List Node
+    pub told : AreAsTold nodes facts
+    pub placed : List Node
+    pub claimed : LieAsClaimed nodes placed
+    pub hearsay : List Hearsay
+    pub is : IsUnclaimed placed hearsay path by authority
+
+  -- most of the directories for which the dumps name an inode number are doubtful
+  pub record IsElsewhere (folder : List ℕ) : Type 0 where
+    pub dumps : Dumps
+    pub dumps_of : AreDumpsOf reads says folder dumps
+    pub nodes : List Node
+    pub told : AreAsTold nodes (all_facts dumps)
+    pub left : have_left (is_some dumps.numbers) (all_seen dumps.ranks) nodes ≡ true
+
+  -- what the files say that can't be so
+  abbrev pub IsDoubtful : List ℕ → SnapshotError → Type 0
+  IsDoubtful folder doubt.Memory = ⊥
+  IsDoubtful folder doubt.TooMany = ⊥
+  IsDoubtful folder doubt.Elsewhere = IsElsewhere folder
+  IsDoubtful folder (doubt.TwoClaims path first second) = IsTwiceClaimed folder (string_bytes path) first second
+  IsDoubtful folder (doubt.Unclaimed path by authority) = IsUnclaimedIn folder path by authority
+
+  -- why the files of a folder give no directories: memory was refused; a file is not there or not what it has to be;
+  -- what the files say can't be so; or they name more directories than can be numbered, of which no clause says how
+  -- many that are
+  abbrev pub IsFolderFault : List ℕ → NoResult → Type 0
+  IsFolderFault folder why.Memory = ⊤
+  IsFolderFault folder (why.File told one) =
+      (file : DumpFile) × IsToRead folder file × (string_bytes told ≡ dump_name folder file)
+      × IsFileCause (dump_name folder file) file one
+  IsFolderFault folder (why.Gathered error) = IsDoubtful folder error
+  IsFolderFault folder why.TooMany = ⊤
+  IsFolderFault folder other = ⊥
+
+  -- or what is wrong is in the list of this name, where one is named
+  abbrev pub IsCollectFault : List ℕ → Option (List ℕ) → NoResult → Type 0
+  IsCollectFault folder list error = IsFolderFault folder error ⊎ IsListedFault reads list error
