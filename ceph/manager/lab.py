@@ -99,7 +99,7 @@ def start() -> None:
     shutil.rmtree(LAB + "/module", ignore_errors=True)
     shutil.copytree(TOP + "/ceph/manager/mdbal", module)
     for name in ("mdbal_ceph", "mdbal_drive"):
-        shutil.copy(os.environ[name.upper()], module)
+        shutil.copy(os.environ[name.upper()], module + "/" + name)
     if not os.path.lexists(LAB + "/modules/mdbal"):
         os.symlink(module, LAB + "/modules/mdbal")
     with open(LAB + "/modules/bcrypt.py", "w", encoding="ascii"):
