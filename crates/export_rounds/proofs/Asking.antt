@@ -1,5 +1,5 @@
 -- The states of orders while a board goes on.
-use Rattle.std.proofs.Common.{◌≡◌, ◌≤◌, ◌<◌, ◌+◌, ℕ, zero, suc, Bool, cond, take, List, [], ◌∷◌, ◌++◌, length, Some, slice_get, get_or, refl, sym, ap, ◌∙◌, subst, arith, append-nil, append_assoc}
+use Rattle.std.proofs.Common.{◌≡◌, ◌≤◌, ◌<◌, ◌+◌, ℕ, zero, suc, Bool, true, false, cond, take, List, [], ◌∷◌, ◌++◌, length, Some, slice_get, get_or, refl, sym, ap, ◌∙◌, subst, arith, append-nil, append_assoc}
 use mathlib.Core.List.{IsPrefix}
 use Rattle.mds_board.specs.declared.entry.Entry.{Entry}
 use Rattle.std.proofs.Math.ListN.{set}
@@ -13,13 +13,14 @@ use Rattle.export_rounds.specs.declared.standing.Standing.TheVariants.{Waiting, 
 use Rattle.export_rounds.specs.Asked.{AreAsked, IsAsked}
 use Rattle.mds_board.specs.declared.board_error.BoardError.{BoardError}
 use Rattle.mds_board.specs.declared.change.Change.{Change}
-use Rattle.export_rounds.specs.Further.{IsFurther}
-use Rattle.export_rounds.specs.Moments.{IsMet, IsSince}
+use Rattle.export_rounds.specs.Going.{WentOnBy, added}
+use Rattle.export_rounds.specs.Moments.{IsMet}
 use Rattle.export_protocol.specs.declared.event.Event.TheVariants.{Start}
 use Rattle.mds_board.specs.declared.change.Change.TheVariants.{Step}
 use Rattle.mds_board.specs.Steps.{IsDue}
 use Rattle.export_rounds.specs.Outcomes.{IsRefused, IsStarted}
 use Rattle.export_rounds.specs.Pairs.{AreEach}
+use Rattle.export_rounds.proofs.Going.{parts_of}
 use Rattle.export_rounds.proofs.Ordering.{get_first, get_last, no_fewer, orders_stay}
 
 pub each_maps : {A B : Type 0} (R S : A → B → Type 0) → ((a : A) (b : B) → R a b → S a b) → (xs : List A) (ys : List B) → AreEach R xs ys → AreEach S xs ys
@@ -42,10 +43,7 @@ pub follows : (xs ys zs : List Entry) → IsPrefix xs ys → IsPrefix ys zs → 
 follows xs ys zs p q = (p.0 ++ q.0, sym (append_assoc xs p.0 q.0) ∙ (ap (λ (l : List Entry). l ++ q.0) p.1 ∙ q.1))
 
 pub met_later : (first : World) (log longer : List Entry) (change : Change) (e : BoardError) → IsPrefix log longer → IsMet first log change e → IsMet first longer change e
-met_later first log longer change e more h = record { board = h.board; since = h.since; due = h.due; kept = follows h.board.history log longer h.kept more }
-
-pub further_since : (first now : World) → IsFurther first now → IsSince first now
-further_since first now h = record { entries = h.more; history = h.history; replay = h.replay; orders = no_fewer first now h }
+met_later first log longer change e more h = record { board = h.board; went = h.went; due = h.due; kept = follows h.board.history log longer h.kept more }
 
 -- The history goes on, and so do the exports.
 pub record Grows (now new : World) : Type 0 where
@@ -53,9 +51,9 @@ pub record Grows (now new : World) : Type 0 where
   pub more : List Order
   pub orders : new.state.cluster.orders ≡ now.state.cluster.orders ++ more
 
-pub further_grows : (now new : World) → IsFurther now new → Grows now new
-further_grows now new h =
-    let more = orders_stay now new h in record { history = (h.more, sym h.history); more = more.0; orders = more.1 }
+pub went_grows : (r x : Bool) (now new : World) → WentOnBy r x now new → Grows now new
+went_grows r x now new h =
+    let more = orders_stay r x now new h in record { history = (added now new, sym (parts_of r x now new h)); more = more.0; orders = more.1 }
 
 asked_grows : (first now new : World) → Grows now new → (order : Order) (standing : Standing) → IsAsked first now order standing → IsAsked first new order standing
 asked_grows first now new h order (Waiting waiting) is = is
@@ -65,9 +63,6 @@ asked_grows first now new h order (Refused error) is = met_later first now.histo
 
 pub all_grow : (first now new : World) (orders : List Order) (standings : List Standing) → Grows now new → AreAsked first now orders standings → AreAsked first new orders standings
 all_grow first now new orders standings h all = each_maps (IsAsked first now) (IsAsked first new) (asked_grows first now new h) orders standings all
-
-pub all_stay : (first now new : World) (orders : List Order) (standings : List Standing) → IsFurther now new → AreAsked first now orders standings → AreAsked first new orders standings
-all_stay first now new orders standings h all = all_grow first now new orders standings (further_grows now new h) all
 
 pub each_long : {A B : Type 0} (R : A → B → Type 0) (xs : List A) (ys : List B) → AreEach R xs ys → length xs ≡ length ys
 each_long R [] [] h = refl
@@ -93,20 +88,20 @@ each_next R S [] (b ∷ ys) i d c zs h n f t = absurd h
 each_next R S (a ∷ xs) [] i d c zs h n f t = absurd h
 
 -- an order that has just been refused
-pub newly_refused : (first now : World) (order waiting : Order) (e : BoardError) → IsSince first now → waiting ≡ order
+pub newly_refused : (first now : World) (order waiting : Order) (e : BoardError) → WentOnBy true true first now → waiting ≡ order
     → IsDue now.state (Step (Start waiting.from waiting.to waiting.dirs)) e → IsRefused first now order e
 newly_refused first now order waiting e h is due = record {
   board = now;
-  since = h;
+  went = h;
   due = subst (λ (o : Order). IsDue now.state (Step (Start o.from o.to o.dirs)) e) is due;
   kept = ([], append-nil now.history);
 }
 
 -- an order that has just been started
-pub newly_started : (first now new : World) (order waiting : Order) (x : ℕ) → IsSince first now → waiting ≡ order → x ≡ length now.state.cluster.orders
+pub newly_started : (first now new : World) (order waiting : Order) (x : ℕ) → WentOnBy true true first now → waiting ≡ order → x ≡ length now.state.cluster.orders
     → new.state.cluster.orders ≡ now.state.cluster.orders ++ waiting ∷ [] → IsStarted first new order x
 newly_started first now new order waiting x h is e more = (
-  subst (λ n. length first.state.cluster.orders ≤ n) (sym e) h.orders,
+  subst (λ n. length first.state.cluster.orders ≤ n) (sym e) (no_fewer true true first now h),
   ap (λ (os : List Order). slice_get os x) more
       ∙ (ap (λ n. slice_get (now.state.cluster.orders ++ waiting ∷ []) n) e ∙ (get_last now.state.cluster.orders waiting ∙ ap (λ (o : Order). Some o) is)),
 )
@@ -124,11 +119,11 @@ begun_later first now [] (s ∷ standings) k x d near h is = absurd h
 begun_later first now (o ∷ orders) [] k x d near h is = absurd h
 
 -- an order that is in another state
-pub one_changed : (first now new : World) (orders : List Order) (standings : List Standing) (k : ℕ) (s d : Standing) → IsFurther now new → k < length standings
+pub one_changed : (first now new : World) (orders : List Order) (standings : List Standing) (k : ℕ) (s d : Standing) → WentOnBy false true now new → k < length standings
     → ((order : Order) → IsAsked first now order (get_or standings k d) → IsAsked first new order s) → AreAsked first now orders standings
     → AreAsked first new orders (set standings k s)
 one_changed first now new orders standings k s d h near f all =
-    each_set (IsAsked first now) (IsAsked first new) (asked_grows first now new (further_grows now new h)) orders standings k s d near f all
+    each_set (IsAsked first now) (IsAsked first new) (asked_grows first now new (went_grows false true now new h)) orders standings k s d near f all
 
 -- counts
 

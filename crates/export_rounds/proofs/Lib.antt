@@ -1,4 +1,4 @@
-pub mod Adding
 pub mod Asking
+pub mod ByKind
 pub mod Going
 pub mod Ordering

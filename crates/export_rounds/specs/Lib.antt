@@ -1,6 +1,5 @@
-pub mod Adding
 pub mod Asked
-pub mod Further
+pub mod Going
 pub mod Looks
 pub mod Moments
 pub mod Outcomes

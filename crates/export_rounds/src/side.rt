@@ -1,8 +1,7 @@
 //! What the threads of a phase do to the exports of the board that they share.
 ghost use Rattle.std.specs.Prelude.{◌≡◌, ◌≤◌, ℕ, IfSome, true};
 ghost use Rattle.mds_board.specs.declared.change.Change.TheVariants as Change;
-ghost use Rattle.mds_board.specs.Steps.{is_inner};
-ghost use Rattle.export_rounds.specs.Adding.{IsOfPhase};
+ghost use Rattle.export_rounds.specs.Going.{IsOfPhase};
 ghost use Rattle.export_rounds.specs.Asked.{is_later};
 
 use export_machine::Cluster;
@@ -22,7 +21,6 @@ pub trait ExportSide {
 
     /// An event by which exports go on, or an export of the phase is aborted, and whether it was accepted.
     fn step(&mut self, alloc: Global, event: Event) -> bool
-        requires inner { is_inner event ≡ true }
         requires later { is_later event ≡ true }
         requires ours { IsOfPhase earlier (Change.Step event) };
 

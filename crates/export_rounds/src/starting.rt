@@ -1,11 +1,9 @@
 //! Orders are started.
-ghost use Rattle.std.specs.Prelude.{◌≡◌, ◌+◌, ℕ, List, count_by, false, length, IfOk};
+ghost use Rattle.std.specs.Prelude.{◌≡◌, ◌+◌, ℕ, All, List, count_by, false, length, true, IfOk};
 ghost use Rattle.mds_board.specs.History.{World};
 ghost use Rattle.mds_types.specs.declared.order.Order.{Order as TheOrder};
-ghost use Rattle.export_rounds.specs.Adding.{GoesOnBy};
 ghost use Rattle.export_rounds.specs.Asked.{AreAsked, IsAsked, is_begun, is_waiting, ones};
-ghost use Rattle.export_rounds.specs.Further.{IsFurther};
-ghost use Rattle.export_rounds.specs.Moments.{IsSince};
+ghost use Rattle.export_rounds.specs.Going.{IsOfPhase, WentOnBy, added};
 
 use crate::standing::Standing;
 use crate::stepping::start;
@@ -29,16 +27,16 @@ pub fn waiting(alloc: Global, orders: &[Order]) -> Result<Vec<Standing>, AllocEr
 }
 
 /// Starts the order of this number if it waits, and returns its export.
-#[tactic(auto, using(crate::proofs::Going::stays, crate::proofs::Adding::nothing_added))]
+#[tactic(auto, using(crate::proofs::Going::stays, crate::proofs::Going::adds_none))]
 pub fn settle_at<J: Naming, M: Publisher<J>>(
     board: &mut Board<J, M>,
     alloc: Global,
     standings: &mut Vec<Standing>,
     number: usize,
 ) -> Option<u32>
-    ensures further { IsFurther board.old board.new }
-    ensures events { (before : ℕ) → GoesOnBy before board.old board.new }
-    ensures asked { (first : World) (orders : List TheOrder) → IsSince first board.old
+    ensures went { WentOnBy false true board.old board.new }
+    ensures events { (before : ℕ) → All (λ e. IsOfPhase before e.change) (added board.old board.new) }
+    ensures asked { (first : World) (orders : List TheOrder) → WentOnBy true true first board.old
         → AreAsked first board.old orders standings.old.items → AreAsked first board.new orders standings.new.items }
     ensures counted { length board.new.state.cluster.orders + count_by is_begun standings.old.items
         ≡ length board.old.state.cluster.orders + count_by is_begun standings.new.items }
@@ -48,15 +46,15 @@ pub fn settle_at<J: Naming, M: Publisher<J>>(
 }
 
 // Starts an order if it waits, and returns its export.
-#[tactic(auto, using(crate::proofs::Adding::nothing_added))]
+#[tactic(auto, using(crate::proofs::Going::stays, crate::proofs::Going::adds_none))]
 fn settle<J: Naming, M: Publisher<J>>(
     board: &mut Board<J, M>,
     alloc: Global,
     standing: &mut Standing,
 ) -> Option<u32>
-    ensures further { IsFurther board.old board.new }
-    ensures events { (before : ℕ) → GoesOnBy before board.old board.new }
-    ensures asked { (first : World) (order : TheOrder) → IsSince first board.old
+    ensures went { WentOnBy false true board.old board.new }
+    ensures events { (before : ℕ) → All (λ e. IsOfPhase before e.change) (added board.old board.new) }
+    ensures asked { (first : World) (order : TheOrder) → WentOnBy true true first board.old
         → IsAsked first board.old order standing.old → IsAsked first board.new order standing.new }
     ensures counted { length board.new.state.cluster.orders + ones (is_begun standing.old)
         ≡ length board.old.state.cluster.orders + ones (is_begun standing.new) }

@@ -1,11 +1,9 @@
 //! The orders of a board are carried out, by a thread a rank.
-ghost use Rattle.std.specs.Prelude.{◌≡◌, ◌≤◌, [], count_by, length, vec_capacity, IfOk, OnErr};
-ghost use Rattle.export_rounds.specs.Adding.{GoesOnBy};
+ghost use Rattle.std.specs.Prelude.{◌≡◌, ◌≤◌, [], count_by, false, length, true, vec_capacity, IfOk, OnErr};
 ghost use Rattle.export_rounds.specs.Asked.{AreAsked, is_begun};
-ghost use Rattle.export_rounds.specs.Further.{IsFurther};
+ghost use Rattle.export_rounds.specs.Going.{WentOnBy};
 ghost use Rattle.export_rounds.specs.Outcomes.{AreAll, AreOutcomes};
 
-use crate::cell::{ExportPhase, Exporting};
 use crate::place::Place;
 use crate::turns::Rounds;
 use crate::under_way::UnderWay;
@@ -18,6 +16,7 @@ use export_rounds::starting::waiting;
 use export_rounds::{Desk, ExportSide, Gate, Outcome, Standing, Unsettled};
 use mds_board::Board;
 use mds_types::Order;
+use phased_board::{Phase, PhaseNames, Phased};
 use proof_names::Naming;
 use std::alloc::{AllocError, Global};
 use std::marker::{Brand, Send, Sync};
@@ -41,6 +40,8 @@ pub struct Prepared {
     pub standings: Vec<Standing>,
     /// The ranks.
     pub ranks: Places,
+    /// The log of what happens to the board, and the giver of tickets.
+    pub names: PhaseNames,
 }
 
 // A place for each rank that has a desk.
@@ -52,7 +53,7 @@ fn places_for(alloc: Global, desks: &[Desk]) -> Result<Vec<Place>, AllocError> {
     Ok(places)
 }
 
-/// Room for the outcomes, the orders as ones that wait, and what each rank has to look after.
+/// Room for the outcomes, the orders as ones that wait, what each rank has to look after, and the phase's names.
 pub fn prepare<J: Naming, M: Publisher<J>>(
     alloc: Global,
     board: &Board<J, M>,
@@ -73,6 +74,7 @@ pub fn prepare<J: Naming, M: Publisher<J>>(
         outcomes,
         standings,
         ranks: Places { desks, places },
+        names: PhaseNames::new(alloc)?,
     })
 }
 
@@ -145,7 +147,7 @@ pub fn carry_out<X: ExportSide + Send, R: Threads + Wait + Sync, G: Gate + Sync>
 fn carry_out_named<
     J: Naming + Send + Sync,
     M: Publisher<J> + Send,
-    K: ExportPhase + Send + Sync,
+    K: Phase + Send + Sync,
     R: Threads + Wait + Sync,
     G: Gate + Sync,
 >(
@@ -158,11 +160,14 @@ fn carry_out_named<
 ) -> (Board<J, M>, Vec<Outcome>)
     requires board { board ≡ K.before }
     requires orders { orders.now ≡ K.orders }
+    requires requests { K.requests ≡ false }
+    requires exports { K.exports ≡ true }
+    requires log { prepared.names.log ≡ K.log }
+    requires tickets { prepared.names.tickets ≡ K.numbers }
     requires asked { AreAsked board board orders.now prepared.standings.items }
     requires none { count_by is_begun prepared.standings.items ≡ 0 }
     requires room { (prepared.outcomes.items ≡ []) × (length orders.now ≤ vec_capacity prepared.outcomes) }
-    ensures further { IsFurther board result.0 }
-    ensures events { GoesOnBy (length board.state.cluster.orders) board result.0 }
+    ensures board { WentOnBy false true board result.0 }
     ensures outcomes { AreOutcomes board result.0 orders.now result.1.items }
     ensures all { AreAll board result.0 result.1.items }
 {
@@ -170,8 +175,9 @@ fn carry_out_named<
         mut outcomes,
         standings,
         ranks,
+        names,
     } = prepared;
-    let cell = Mutex::new(Exporting::<J, M, K>::new(board, standings));
+    let cell = Mutex::new(Phased::<J, M, K>::new(board, standings, true, names));
     carry_out(rt, alloc, &cell, gate, orders, ranks);
     let (board, standings) = cell.into_inner().into_parts();
     tell(board.cluster(), &standings, &mut outcomes);
@@ -194,8 +200,7 @@ pub fn export_phase<
     gate: &G,
     orders: &[Order],
 ) -> (Board<J, M>, Result<Vec<Outcome>, AllocError>)
-    ensures further { IsFurther board result.0 }
-    ensures events { GoesOnBy (length board.state.cluster.orders) board result.0 }
+    ensures board { WentOnBy false true board result.0 }
     ensures outcomes { IfOk result.1 (λ outcomes. AreOutcomes board result.0 orders.now outcomes.items) }
     ensures all { IfOk result.1 (λ outcomes. AreAll board result.0 outcomes.items) }
     ensures unchanged { OnErr result.1 (result.0 ≡ board) }
@@ -229,8 +234,7 @@ pub fn export_phase_from<
     orders: &[Order],
     unsettled: &mut Unsettled,
 ) -> (Board<J, M>, Result<Vec<Outcome>, AllocError>)
-    ensures further { IsFurther board result.0 }
-    ensures events { GoesOnBy (length board.state.cluster.orders) board result.0 }
+    ensures board { WentOnBy false true board result.0 }
     ensures outcomes { IfOk result.1 (λ outcomes. AreOutcomes board result.0 orders.now outcomes.items) }
     ensures all { IfOk result.1 (λ outcomes. AreAll board result.0 outcomes.items) }
     ensures unchanged { OnErr result.1 (result.0 ≡ board) }

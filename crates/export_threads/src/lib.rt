@@ -4,7 +4,6 @@
 //! history, and the state of each order on it: the lock's type says so.
 #![tactic(auto)]
 
-mod cell;
 pub mod exporting;
 mod place;
 mod turn;

@@ -9,8 +9,7 @@ use Rattle.export_protocol.specs.declared.event.Event.{Event}
 use Rattle.export_protocol.proofs.Frame.{delivered_frame}
 use Rattle.heat_ledger.specs.declared.dir_hits.DirHits.{DirHits}
 use Rattle.mds_board.proofs.Mapping.{after_step}
-use Rattle.export_rounds.specs.Adding.{IsOfPhase}
-use Rattle.export_protocol.specs.declared.event.Event.TheVariants.{Made, Gone, Begin, End, Start, Deliver, Froze, Notify, Abort, Stop, Restart, Ask}
+use Rattle.export_protocol.specs.declared.event.Event.TheVariants.{Abort, Ask, Begin, Deliver, End, Froze, Notify, Start}
 use Rattle.export_protocol.specs.declared.event.Reply.TheVariants.{Ticket}
 use Rattle.export_protocol.specs.declared.event.Request.{Request}
 use Rattle.export_protocol.specs.declared.step_error.StepError.{StepError}
@@ -20,17 +19,16 @@ use Rattle.mds_board.specs.declared.board_error.BoardError.TheVariants as error
 use Rattle.mds_board.specs.declared.change.Answer.{Answer}
 use Rattle.mds_board.specs.declared.change.Answer.TheVariants as answer
 use Rattle.mds_board.specs.declared.change.Change.{Change}
-use Rattle.mds_board.specs.declared.change.Change.TheVariants.{Make, Remove, Mask, Deposit, Tick, Step, Open, Adopt}
-use Rattle.mds_board.specs.declared.change.Change.TheVariants as change
+use Rattle.mds_board.specs.declared.change.Change.TheVariants.{Deposit, Step}
 use Rattle.mds_board.specs.State as state
 use Rattle.mds_board.specs.State.{State}
-use Rattle.mds_board.specs.Steps.{IsDue, is_inner}
-use Rattle.export_rounds.proofs.Going.{head_has, tail_have}
+use Rattle.mds_board.specs.Steps.{IsDue}
+use Rattle.export_rounds.specs.Going.{IsOfKind, IsOfPhase, WentOnBy, added, is_of_requests}
+use Rattle.export_rounds.proofs.ByKind.{by_exports, head_has, tail_have}
+use Rattle.phased_board.proofs.Requests.{by_requests}
 use Rattle.mds_board.specs.declared.entry.Entry.{Entry}
 use Rattle.mds_board.specs.History.{World, IsAnswer, IsReplay, entry_of}
-use Rattle.phased_board.proofs.Requests.{by_requests}
 use Rattle.phased_board.specs.Begun.{IsEndMet}
-use Rattle.phased_board.specs.Going.{IsOfKind, WentOnBy, added, is_of_requests}
 
 -- the first cause is that no request has the ticket
 of_causes : (full : Bool) (request : Option Request) → machine.first (machine.when full HistoryFull ∷ machine.when (not (is_some request)) NoTicket ∷ []) ≡ Some NoTicket → request ≡ None
@@ -152,39 +150,12 @@ event_tickets w n (Froze x) h = refl
 event_tickets w n (Notify x) h = refl
 event_tickets w n (Abort x) h = refl
 event_tickets w n (Ask x) h = refl
-event_tickets w n (Made p) h = absurd h
-event_tickets w n (Gone d) h = absurd h
-event_tickets w n (Begin r d) h = absurd h
-event_tickets w n (End t) h = absurd h
-event_tickets w n (Stop r) h = absurd h
-event_tickets w n (Restart r) h = absurd h
-
--- a phase neither makes nor removes a directory nor begins a request
-inner : (n : ℕ) (e : Event) → IsOfPhase n (Step e) → is_inner e ≡ true
-inner n (Made p) h = absurd h
-inner n (Gone d) h = absurd h
-inner n (Begin r d) h = absurd h
-inner n (End t) h = refl
-inner n (Start from to dirs) h = refl
-inner n (Deliver m) h = refl
-inner n (Froze x) h = refl
-inner n (Notify x) h = refl
-inner n (Abort x) h = refl
-inner n (Stop r) h = refl
-inner n (Restart r) h = refl
-inner n (Ask x) h = refl
+event_tickets w n _ h = absurd h
 
 pub phase_tickets : (s : State) (n : ℕ) (c : Change) → IsOfPhase n c → (state.next s c).cluster.tickets ≡ s.cluster.tickets
-phase_tickets s n (Step e) h = ap (λ (t : State). t.cluster.tickets) (after_step s e (inner n e h)) ∙ event_tickets s.cluster n e h
-phase_tickets s n (Make parent name inodes) h = absurd h
-phase_tickets s n (Remove d) h = absurd h
-phase_tickets s n (change.Pin d value) h = absurd h
-phase_tickets s n (Mask bits) h = absurd h
-phase_tickets s n (change.Weights read write) h = absurd h
-phase_tickets s n (Deposit hits) h = absurd h
-phase_tickets s n Tick h = absurd h
-phase_tickets s n Open h = absurd h
-phase_tickets s n (Adopt plan) h = absurd h
+phase_tickets s n =
+    by_exports (λ (c : Change). (state.next s c).cluster.tickets ≡ s.cluster.tickets) n
+    (λ e inner is. ap (λ (t : State). t.cluster.tickets) (after_step s e inner) ∙ event_tickets s.cluster n e is)
 
 -- a ticket from here on is given later, or its request is over
 one_over : (now : World) (s : State) (told : Answer)
@@ -206,31 +177,30 @@ one_over now s told over t low =
           | inr same ↦ inr (over t (reply ∙ (begin_reply s r d ∙ ap (λ (n : ℕ). answer.Reply (Ticket n)) (sym same))))
         ]
 
-kind_over : (exports : Bool) (n : ℕ) (now : World) (s : State) (c : Change) (told : Answer) → IsOfKind exports n c → told ≡ (state.happens s c).reply
+kind_over : (r x : Bool) (n : ℕ) (now : World) (s : State) (c : Change) (told : Answer) → IsOfKind r x n c → told ≡ (state.happens s c).reply
     → ((t : ℕ) → told ≡ answer.Reply (Ticket t) → request_of now.state.cluster t ≡ None) → (t : ℕ) → length s.cluster.tickets ≤ t
     → (length (state.next s c).cluster.tickets ≤ t) ⊎ (request_of now.state.cluster t ≡ None)
-kind_over false n now s c told is reply over t low = one_over now s told over t low c is reply
-kind_over true n now s c told (inl is) reply over t low = one_over now s told over t low c is reply
-kind_over true n now s c told (inr phase) reply over t low = let same = ap (λ (ts : List (Option Request)). length ts) (phase_tickets s n c phase) in inl (omega arith)
+kind_over r x n now s c told (inl is) reply over t low = one_over now s told over t low c is.1 reply
+kind_over r x n now s c told (inr is) reply over t low = let same = ap (λ (ts : List (Option Request)). length ts) (phase_tickets s n c is.1) in inl (omega arith)
 
 -- the requests that began by these entries are over
-all_over : (exports : Bool) (n : ℕ) (now : World) (s : State) (es : List Entry) (u : State) → All (λ (e : Entry). IsOfKind exports n e.change) es → IsReplay s es u
+all_over : (r x : Bool) (n : ℕ) (now : World) (s : State) (es : List Entry) (u : State) → All (λ (e : Entry). IsOfKind r x n e.change) es → IsReplay s es u
     → ((k : ℕ) (e : Entry) → slice_get es k ≡ Some e → IsOver now e) → (t : ℕ) → length s.cluster.tickets ≤ t → t < length u.cluster.tickets
     → request_of now.state.cluster t ≡ None
-all_over exports n now s [] u alone replay over t low high = let same = ap (λ (v : State). length v.cluster.tickets) replay in absurd (omega arith)
-all_over exports n now s (e ∷ es) u alone replay over t low high =
-    elim (kind_over exports n now s e.change e.reply (head_has (λ (x : Entry). IsOfKind exports n x.change) e es alone) replay.2 (over 0 e refl) t low) [
-      | inl later ↦ all_over exports n now (state.next s e.change) es u (tail_have (λ (x : Entry). IsOfKind exports n x.change) e es alone) replay.3 (λ k. over (suc k)) t later high
+all_over r x n now s [] u alone replay over t low high = let same = ap (λ (v : State). length v.cluster.tickets) replay in absurd (omega arith)
+all_over r x n now s (e ∷ es) u alone replay over t low high =
+    elim (kind_over r x n now s e.change e.reply (head_has (λ (it : Entry). IsOfKind r x n it.change) e es alone) replay.2 (over 0 e refl) t low) [
+      | inl later ↦ all_over r x n now (state.next s e.change) es u (tail_have (λ (it : Entry). IsOfKind r x n it.change) e es alone) replay.3 (λ k. over (suc k)) t later high
       | inr gone ↦ gone
     ]
 
 -- no request runs that began since
-pub none_runs : (exports : Bool) (before mid now : World) → WentOnBy exports before mid → ((k : ℕ) (e : Entry) → length before.history ≤ k → k < length mid.history → slice_get mid.history k ≡ Some e → IsOver now e)
+pub none_runs : (r x : Bool) (before mid now : World) → WentOnBy r x before mid → ((k : ℕ) (e : Entry) → length before.history ≤ k → k < length mid.history → slice_get mid.history k ≡ Some e → IsOver now e)
     → ((t : ℕ) → request_of mid.state.cluster t ≡ None → request_of now.state.cluster t ≡ None) → (t : ℕ) → length before.state.cluster.tickets ≤ t
     → request_of now.state.cluster t ≡ None
-none_runs exports before mid now went over stays t low =
+none_runs r x before mid now went over stays t low =
     elim (inside_or_past (length mid.state.cluster.tickets) t) [
-      | inl inside ↦ all_over exports (length before.state.cluster.orders) now before.state (added before mid) mid.state went.alone went.replay
+      | inl inside ↦ all_over r x (length before.state.cluster.orders) now before.state (added before mid) mid.state went.alone went.replay
           (λ k e is. (let found = from_drop mid.history (length before.history) k e is in over (length before.history + k) e (omega arith) (inside_of mid.history (length before.history + k) e found) found))
           t low inside
       | inr beyond ↦ stays t (past mid.state.cluster.tickets t beyond)

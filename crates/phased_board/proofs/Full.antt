@@ -1,5 +1,5 @@
 -- Boards of a phase: how one goes on to another, and that a full history stays full.
-use Rattle.std.proofs.Common.{◌≡◌, ◌≤◌, ℕ, ◌+◌, Bool, true, false, List, [], ◌∷◌, ◌++◌, length, take, drop, Option, Some, None, refl, sym, ap, ◌∙◌, subst, inl, inr, arith, append_assoc, length-append}
+use Rattle.std.proofs.Common.{◌≡◌, ◌≤◌, ℕ, ◌+◌, Bool, true, false, List, [], ◌∷◌, ◌++◌, length, take, drop, get_or, Option, Some, None, refl, sym, ap, ◌∙◌, subst, inl, inr, arith, append_assoc, length-append}
 use Rattle.std.proofs.lemmas.Bool.Decides.{nat_tests}
 use Rattle.std.proofs.lemmas.List.{append_cancel_left}
 use Rattle.std.specs.List.{All}
@@ -14,14 +14,14 @@ use Rattle.mds_board.specs.declared.change.Change.{Change}
 use Rattle.mds_board.specs.State as state
 use Rattle.mds_board.specs.State.{State}
 use Rattle.mds_board.specs.Steps.{IsDue}
-use Rattle.export_rounds.proofs.Going.{tail_have}
+use Rattle.export_rounds.specs.Going.{IsOfKind, WentOnBy, added, is_of_requests}
+use Rattle.export_rounds.proofs.Going.{parts_of, unpublished}
+use Rattle.export_rounds.proofs.ByKind.{tail_have}
+use Rattle.phased_board.proofs.Requests.{by_requests}
 use Rattle.mds_board.specs.declared.entry.Entry.{Entry}
 use Rattle.mds_board.specs.History.{World, IsReplay}
 use Rattle.mds_board.specs.Promises.{IsKept}
 use Rattle.export_rounds.specs.Moments.{IsMet}
-use Rattle.phased_board.proofs.GoingOn.{parts_of}
-use Rattle.phased_board.proofs.Requests.{by_requests}
-use Rattle.phased_board.specs.Going.{WentOn, added, is_of_requests}
 
 -- How one goes on to another.
 
@@ -41,19 +41,27 @@ replay_after : (s : State) (xs ys : List Entry) (t u : State) → IsReplay s xs 
 replay_after s [] ys t u h r = subst (λ (v : State). IsReplay v ys u) (sym h) r
 replay_after s (x ∷ xs) ys t u h r = replay_after (state.next s x.change) xs ys t u h.3 r.3
 
-pub goes_between : (before between last : World) → WentOn before between → WentOn before last → IsPrefix between.history last.history → WentOn between last
+only_requests : (n more : ℕ) (c : Change) → IsOfKind true false n c → IsOfKind true false more c
+only_requests n more c (inl is) = inl is
+only_requests n more c (inr is) = let no = is.0 in absurd (cc)
+
+pub goes_between : (before between last : World) → WentOnBy true false before between → WentOnBy true false before last → IsPrefix between.history last.history
+    → WentOnBy true false between last
 goes_between before between last mid went more =
     let is : last.history ≡ between.history ++ more.0 = sym more.1 in
     let beyond : added between last ≡ more.0 = ap (λ (l : List Entry). drop (length between.history) l) is ∙ drop_whole between.history more.0 in
     let whole : before.history ++ added before last ≡ before.history ++ (added before between ++ more.0) =
-    sym (parts_of false before last went) ∙ (is ∙ (ap (λ (l : List Entry). l ++ more.0) (parts_of false before between mid) ∙ append_assoc before.history (added before between) more.0)) in
+    sym (parts_of true false before last went) ∙ (is ∙ (ap (λ (l : List Entry). l ++ more.0) (parts_of true false before between mid) ∙ append_assoc before.history (added before between) more.0)) in
     let parts : added before last ≡ added before between ++ more.0 = append_cancel_left before.history (added before last) (added before between ++ more.0) whole in
     record {
       kept = ap (λ (l : List Entry). take (length between.history) l) is ∙ take_whole between.history more.0;
-      alone = rw beyond (all_after (λ (e : Entry). is_of_requests e.change ≡ true) (added before between) more.0 (subst (λ (l : List Entry). All (λ e. is_of_requests e.change ≡ true) l) parts went.alone));
+      alone = rw beyond (λ i d l.
+          only_requests (length before.state.cluster.orders) (length between.state.cluster.orders) (get_or more.0 i d).change
+          (all_after (λ (e : Entry). IsOfKind true false (length before.state.cluster.orders) e.change) (added before between) more.0
+          (subst (λ (l : List Entry). All (λ e. IsOfKind true false (length before.state.cluster.orders) e.change) l) parts went.alone) i d l));
       replay = rw beyond (replay_after before.state (added before between) more.0 between.state last.state mid.replay (subst (λ (l : List Entry). IsReplay before.state l last.state) parts went.replay));
       same_book = (went.same_book.0 ∙ sym mid.same_book.0, went.same_book.1 ∙ sym mid.same_book.1);
-      same_map = went.same_map ∙ sym mid.same_map;
+      same_map = inl (unpublished before last went ∙ sym (unpublished before between mid));
     }
 
 -- A full history.
@@ -85,13 +93,13 @@ is_full s c is (inr (none, inr best)) = let not_best = best.0 in absurd (cc)
 prefix_length : (xs ys : List Entry) → IsPrefix xs ys → length xs ≤ length ys
 prefix_length xs ys p = let long = ap (λ (l : List Entry). length l) p.1 in let both = length-append xs p.0 in omega arith
 
-pub full_at_last : (before last : World) (c : Change) → is_of_requests c ≡ true → WentOn before last → IsKept last → IsMet before last.history c error.HistoryFull → 1048576 ≤ length last.history
+pub full_at_last : (before last : World) (c : Change) → is_of_requests c ≡ true → WentOnBy true false before last → IsKept last → IsMet before last.history c error.HistoryFull → 1048576 ≤ length last.history
 full_at_last before last c is went kept met =
     let full = is_full met.board.state c is met.due in
     let all = events_by (state.start last.state.directories.limit last.state.pins.active) last.history last.state kept.replay in
     let more = events_by before.state (added before last) last.state went.replay in
-    let long = ap (λ (l : List Entry). length l) (parts_of false before last went) ∙ length-append before.history (added before last) in
-    let some = events_by before.state met.since.entries met.board.state met.since.replay in
-    let short = ap (λ (l : List Entry). length l) met.since.history ∙ length-append before.history met.since.entries in
+    let long = ap (λ (l : List Entry). length l) (parts_of true false before last went) ∙ length-append before.history (added before last) in
+    let some = events_by before.state (added before met.board) met.board.state met.went.replay in
+    let short = ap (λ (l : List Entry). length l) (parts_of true true before met.board met.went) ∙ length-append before.history (added before met.board) in
     let less = prefix_length met.board.history last.history met.kept in
     omega arith

@@ -1,32 +1,28 @@
 -- What holds by a log holds by a longer one, and what a board answers holds by its own history.
-use Rattle.std.proofs.Common.{ℕ, List, [], ◌∷◌, ◌++◌, Result, Ok, Err, sym, ap, ◌∙◌, append-nil}
+use Rattle.std.proofs.Common.{ℕ, true, List, [], ◌∷◌, ◌++◌, Result, Ok, Err, sym, ap, ◌∙◌, append-nil}
 use Rattle.std.specs.Prelude.{IfErr}
 use mathlib.Core.List.{IsPrefix}
 use Rattle.mds_board.specs.declared.board_error.BoardError.{BoardError}
 use Rattle.mds_board.specs.declared.change.Answer.{Answer}
 use Rattle.mds_board.specs.declared.change.Change.{Change}
 use Rattle.mds_board.specs.Steps.{spelled}
-use Rattle.export_rounds.specs.Moments.{IsMet, IsSince}
+use Rattle.export_rounds.specs.Going.{WentOnBy}
+use Rattle.export_rounds.specs.Moments.{IsMet}
 use Rattle.export_rounds.proofs.Asking.{follows, met_later}
 use Rattle.mds_board.specs.declared.entry.Entry.{Entry}
-use Rattle.mds_board.specs.History.{World, IsAnswer, entry_of}
+use Rattle.mds_board.specs.History.{World, IsAnswer}
 use Rattle.mds_board.specs.Stored.{began}
 use Rattle.phased_board.specs.Begun.{IsBegun, IsEndMet}
 
 pub begun_later : (before : World) (log longer : List Entry) (rank dir ticket : ℕ) → IsPrefix log longer → IsBegun before log rank dir ticket → IsBegun before longer rank dir ticket
 begun_later before log longer rank dir ticket more h =
-    record { board = h.board; since = h.since; allowed = h.allowed; given = h.given; kept = follows (h.board.history ++ began rank dir ticket ∷ []) log longer h.kept more }
+    record { board = h.board; went = h.went; allowed = h.allowed; given = h.given; kept = follows (h.board.history ++ began rank dir ticket ∷ []) log longer h.kept more }
 
 pub end_later : (before : World) (log longer : List Entry) (ended : Result Unit BoardError) → IsPrefix log longer → IsEndMet before log ended → IsEndMet before longer ended
 end_later before log longer (Ok done) more h = tt
 end_later before log longer (Err e) more h = (h.0, met_later before log longer _ e more h.1, h.2)
 
--- a change makes the history no shorter
-pub longer : (old new : World) (c : Change) (reply : Result Answer BoardError) → IsAnswer old c reply new → IsPrefix old.history new.history
-longer old new c (Ok reply) a = (entry_of old.state c ∷ [], sym (ap (λ (w : World). w.history) a.3))
-longer old new c (Err e) a = ([], append-nil old.history ∙ sym (ap (λ (w : World). w.history) a.1))
-
-pub met_now : {A : Type 0} → (before old new : World) (c : Change) (f : A → Answer) (r : Result A BoardError) → IsSince before old → IsAnswer old c (spelled f r) new
+pub met_now : {A : Type 0} → (before old new : World) (c : Change) (f : A → Answer) (r : Result A BoardError) → WentOnBy true true before old → IsAnswer old c (spelled f r) new
     → IfErr r (λ e. IsMet before new.history c e)
-met_now before old new c f (Ok x) since a = tt
-met_now before old new c f (Err e) since a = record { board = old; since = since; due = a.0; kept = ([], append-nil old.history ∙ sym (ap (λ (w : World). w.history) a.1)) }
+met_now before old new c f (Ok x) went a = tt
+met_now before old new c f (Err e) went a = record { board = old; went = went; due = a.0; kept = ([], append-nil old.history ∙ sym (ap (λ (w : World). w.history) a.1)) }

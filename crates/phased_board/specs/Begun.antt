@@ -1,12 +1,13 @@
 -- Requests of a phase that began, and that ended.
-use Rattle.std.specs.Prelude.{◌≡◌, ◌≢◌, ◌≤◌, ℕ, List, [], ◌∷◌, ◌++◌, None, IsOk, Result, Ok, Err, length}
+use Rattle.std.specs.Prelude.{◌≡◌, ◌≢◌, ◌≤◌, ℕ, List, [], ◌∷◌, ◌++◌, None, true, IsOk, Result, Ok, Err, length}
 use mathlib.Core.List.{IsPrefix}
 use Rattle.export_protocol.specs.declared.event.Event.TheVariants.{Begin, End}
 use Rattle.export_protocol.specs.declared.event.Reply.TheVariants.{Ticket}
 use Rattle.export_protocol.specs.declared.step_error.StepError.TheVariants.{NoTicket}
 use Rattle.export_protocol.specs.Authority.{request_of}
 use Rattle.export_protocol.specs.Step as machine
-use Rattle.export_rounds.specs.Moments.{IsMet, IsSince}
+use Rattle.export_rounds.specs.Going.{WentOnBy}
+use Rattle.export_rounds.specs.Moments.{IsMet}
 use Rattle.mds_board.specs.declared.board_error.BoardError.{BoardError}
 use Rattle.mds_board.specs.declared.board_error.BoardError.TheVariants as board_error
 use Rattle.mds_board.specs.declared.change.Change.TheVariants.{Step}
@@ -16,10 +17,10 @@ use Rattle.mds_board.specs.History.{World}
 use Rattle.mds_board.specs.Stored.{began}
 
 -- The log has the entry of a request that began at this rank, on this directory, with this ticket. Before the entry it
--- is the history of a board that had come from the phase's first.
+-- is the history of a board that had gone on from the phase's first.
 pub record IsBegun (before : World) (log : List Entry) (rank dir ticket : ℕ) : Type 0 where
   pub board : World
-  pub since : IsSince before board
+  pub went : WentOnBy true true before board
   pub allowed : refusal board.state (Step (Begin rank dir)) ≡ None
   pub given : (machine.happens board.state.cluster (Begin rank dir)).reply ≡ Ticket ticket
   pub kept : IsPrefix (board.history ++ began rank dir ticket ∷ []) log

@@ -1,5 +1,5 @@
 //! Requests that still run when the threads of a phase have joined end.
-ghost use Rattle.std.specs.Prelude.{◌≡◌, ◌⊎◌, ◌↔◌, ◌++◌, ◌<◌, ℕ, IsOk, List, None, Some, length, slice_get};
+ghost use Rattle.std.specs.Prelude.{◌≡◌, ◌⊎◌, ◌↔◌, ◌++◌, ◌<◌, ℕ, IsOk, List, None, Some, length, slice_get, true};
 ghost use Rattle.mds_board.specs.declared.change.Answer.TheVariants as answer;
 ghost use Rattle.export_protocol.specs.Authority.{request_of};
 ghost use Rattle.export_protocol.specs.declared.event.Reply.TheVariants as reply;
@@ -46,6 +46,7 @@ fn ticket_of(shown: Shown<'_>) -> Option<u32>
 impl<J: Naming, M: Publisher<J>, K: Phase> Phased<J, M, K> {
     // Ends a request, unless it has ended.
     fn end_once(&mut self, alloc: Global, ticket: u32) -> Result<(), BoardError>
+        requires { K.requests ≡ true }
         ensures ended { IsOk result → request_of self.new.state.cluster ticket ≡ None }
         ensures others { (t : ℕ) → request_of self.old.state.cluster t ≡ None
             → request_of self.new.state.cluster t ≡ None }
@@ -64,7 +65,8 @@ impl<J: Naming, M: Publisher<J>, K: Phase> Phased<J, M, K> {
     /// Ends the requests that began in the phase and still run, and reports the first refusal. The history had `first`
     /// entries when the phase began.
     pub fn end_all(&mut self, alloc: Global, first: usize) -> Result<(), BoardError>
-        requires { first ≡ length K.before.history }
+        requires requests { K.requests ≡ true }
+        requires first { first ≡ length K.before.history }
         ensures { IsEndTold K.before self.new result }
     {
         self.promises();

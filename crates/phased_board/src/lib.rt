@@ -1,7 +1,8 @@
 //! The board that the threads of a phase share, under its lock.
 //!
-//! What a thread finds under the lock is the board with which the phase began. On top of its history there are only
-//! requests that begin or end, deposits and, in a phase with exports, these: the lock's type says so.
+//! What a thread finds under the lock is the board with which the phase began. On top of its history there are only, in
+//! a phase with requests, those that begin or end and deposits, and in one with exports their events: the lock's type
+//! says so.
 #![tactic(auto)]
 
 pub mod ending;
@@ -9,4 +10,4 @@ pub mod laws;
 pub mod phased;
 
 pub use ending::first_refusal;
-pub use phased::{Known, Phase, Phased};
+pub use phased::{Known, Phase, PhaseNames, Phased};

@@ -1,15 +1,16 @@
 //! The board that the threads of a phase share, under its lock.
 ghost use Rattle.std.specs.Prelude.{◌≡◌, ◌≤◌, ◌↔◌, ◌+◌, ◌++◌, ◌∷◌, [], Some, count_by, replicate};
-ghost use Rattle.std.specs.Prelude.{IfErr, IfOk, IsTrue, OnErr, OnOk};
+ghost use Rattle.std.specs.Prelude.{IfErr, IfOk, IsTrue, OnErr, OnOk, true};
 ghost use Rattle.heat_ledger.specs.Rows.{counted_rows, raised};
 ghost use Rattle.mds_board.specs.Steps.{spelled};
 ghost use Rattle.export_protocol.specs.Step.{refusal};
 ghost use Rattle.export_rounds.specs.Asked.{AreAsked, is_begun};
+ghost use Rattle.export_rounds.specs.Going.{WentOnBy};
 ghost use Rattle.export_rounds.specs.Moments.{IsMet};
 ghost use Rattle.mds_board.specs.History.{IsAnswer};
 ghost use Rattle.mds_board.specs.Promises.{IsKept};
 ghost use Rattle.phased_board.specs.Begun.{IsBegun};
-ghost use Rattle.phased_board.specs.Going.{IsOnTheWay, WasPublished, WentOnBy};
+ghost use Rattle.phased_board.specs.Going.{IsOnTheWay, WasPublished};
 ghost use Rattle.proof_names.specs.Numbers.{AreApart};
 ghost use mathlib.Core.List.{IsPrefix};
 
@@ -22,11 +23,11 @@ use heat_ledger::Share;
 use mds_board::{Answer, Board, BoardError, Change, Entry};
 use mds_types::{Dir, Rank};
 use proof_names::{Given, Log, LogName, Naming, NewLog, NewNumbers, Numbers, NumbersName, Sight};
-use std::alloc::Global;
+use std::alloc::{AllocError, Global};
 use std::marker::{Brand, Model, PhantomData};
 
-/// Names the board with which a phase begins, its orders, whether exports go on in it, the log of what happens to the
-/// board, and the giver of its tickets. It exists in proofs only, and a phase picks it.
+/// Names the board with which a phase begins, its orders, whether it has requests and whether exports go on in it, the
+/// log of what happens to the board, and the giver of its tickets. It exists in proofs only, and a phase picks it.
 pub trait Phase: LogName + NumbersName {
     ghost use Rattle.std.specs.Prelude.{Bool, List};
     ghost use Rattle.mds_board.specs.History.{World};
@@ -35,6 +36,8 @@ pub trait Phase: LogName + NumbersName {
     ghost before: { World };
 
     ghost orders: { List Order };
+
+    ghost requests: { Bool };
 
     ghost exports: { Bool };
 }
@@ -47,7 +50,27 @@ impl Phase for Brand {
 
     ghost orders = { [] };
 
+    ghost requests = { false };
+
     ghost exports = { false };
+}
+
+/// What a phase begins with besides its board: the log of what happens to it, and the giver of its tickets.
+#[derive(Drop)]
+pub struct PhaseNames {
+    /// The log, without entries.
+    pub log: NewLog<Entry>,
+    /// The giver of tickets.
+    pub tickets: NewNumbers,
+}
+
+impl PhaseNames {
+    /// A log and a giver of tickets with names of their own.
+    pub fn new(alloc: Global) -> Result<PhaseNames, AllocError> {
+        let log = NewLog::new(alloc)?;
+        let tickets = NewNumbers::new(alloc)?;
+        Ok(PhaseNames { log, tickets })
+    }
 }
 
 /// What a thread knows of the board in the phase `K`: the history that it has seen, and the tickets that it was given.
@@ -81,7 +104,7 @@ impl<J: Naming, M: Publisher<J>, K: Phase> Model for Phased<J, M, K> {
 
     ghost view = { λ p. p.board };
 
-    ghost invariant = { λ p. IsOnTheWay K.exports K.before K.orders p.board p.standings.items p.tickets
+    ghost invariant = { λ p. IsOnTheWay K.requests K.exports K.before K.orders p.board p.standings.items p.tickets
         × (p.exports ≡ K.exports) × (p.log ≡ p.board.history) };
 }
 
@@ -91,17 +114,17 @@ impl<J: Naming, M: Publisher<J>, K: Phase> Phased<J, M, K> {
         board: Board<J, M>,
         standings: Vec<Standing>,
         exports: bool,
-        log: NewLog<Entry>,
-        tickets: NewNumbers,
+        names: PhaseNames,
     ) -> Phased<J, M, K>
         requires board { board ≡ K.before }
         requires asked { AreAsked board board K.orders standings.items }
         requires none { count_by is_begun standings.items ≡ 0 }
         requires exports { exports ≡ K.exports }
-        requires log { log ≡ K.log }
-        requires tickets { tickets ≡ K.numbers }
+        requires log { names.log ≡ K.log }
+        requires tickets { names.tickets ≡ K.numbers }
         ensures { result ≡ board }
     {
+        let PhaseNames { log, tickets } = names;
         let mut log = log.named::<K>();
         note(&board, &mut log);
         Phased {
@@ -123,6 +146,7 @@ impl<J: Naming, M: Publisher<J>, K: Phase> Phased<J, M, K> {
         rank: Rank,
         dir: Dir,
     ) -> Result<u32, BoardError>
+        requires { K.requests ≡ true }
         ensures answer { IsAnswer self.old (Change.Step (Event.Begin rank dir))
             (spelled (λ ticket. Answer.Reply (Reply.Ticket ticket)) result) self.new }
         ensures begun { IfOk result (λ ticket. IsBegun K.before known.new.seen rank dir ticket) }
@@ -143,6 +167,7 @@ impl<J: Naming, M: Publisher<J>, K: Phase> Phased<J, M, K> {
 
     /// A request ends: its ticket is given back.
     pub fn end(&mut self, alloc: Global, ticket: u32) -> Result<Reply, BoardError>
+        requires { K.requests ≡ true }
         ensures answer { IsAnswer self.old (Change.Step (Event.End ticket)) (spelled Answer.Reply result) self.new }
         ensures refused { IfErr result (λ error. IsMet K.before self.new.history (Change.Step (Event.End ticket))
             error) }
@@ -170,6 +195,7 @@ impl<J: Naming, M: Publisher<J>, K: Phase> Phased<J, M, K> {
         of_rank: Known<K>,
         share: &mut Share<J>,
     ) -> Result<(), BoardError>
+        requires { K.requests ≡ true }
         ensures answer { IsAnswer self.old (Change.Deposit (counted_rows share.old.pending))
             (spelled (λ _. Answer.Done) result) self.new }
         ensures refused { IfErr result (λ error. IsMet K.before known.new.seen
@@ -227,7 +253,7 @@ impl<J: Naming, M: Publisher<J>, K: Phase> Phased<J, M, K> {
     /// gone on from the one with which the phase began. It does nothing.
     pub fn promises(&self)
         ensures kept { IsKept self.now }
-        ensures went { WentOnBy K.exports K.before self.now }
+        ensures went { WentOnBy K.requests K.exports K.before self.now }
     {
         self.board.promises();
     }
@@ -242,7 +268,7 @@ impl<J: Naming, M: Publisher<J>, K: Phase> Phased<J, M, K> {
     /// The board, and the state of each order.
     pub fn into_parts(self) -> (Board<J, M>, Vec<Standing>)
         ensures same { result.0 ≡ self }
-        ensures way { IsOnTheWay K.exports K.before K.orders result.0 result.1.items 0 }
+        ensures way { IsOnTheWay K.requests K.exports K.before K.orders result.0 result.1.items 0 }
     {
         let Phased {
             board,

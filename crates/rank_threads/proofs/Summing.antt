@@ -1,15 +1,15 @@
 -- The shares of all ranks together count what the answers name.
-use Rattle.std.proofs.Common.{◌≡◌, Bool, ℕ, ◌+◌, ◌<◌, List, [], ◌∷◌, refl, sym, ap, ◌∙◌, arith}
+use Rattle.std.proofs.Common.{◌≡◌, Bool, ℕ, ◌+◌, List, [], ◌∷◌, refl, sym, ap, ◌∙◌, arith}
 use Rattle.std.proofs.lemmas.List.Sums.{sum_by-append}
 use Rattle.std.specs.List.{sum_by}
 use Rattle.heat_ledger.specs.Ledger.{ShareData, begun_of, hits_of, pending_of, weight_of}
 use Rattle.heat_ledger.specs.Rows.{at}
 use Rattle.mds_board.specs.History.{World}
-use Rattle.phased_board.specs.Going.{WentOnBy}
+use Rattle.export_rounds.specs.Going.{WentOnBy}
 use Rattle.rank_threads.specs.declared.work.Work.{Work}
 use Rattle.rank_threads.specs.declared.work.WorkAnswer.{WorkAnswer}
 use Rattle.rank_threads.specs.Serving.{AreReturned, IsReturned, begun_on, hits_on}
-use Rattle.rank_threads.specs.Totals.{over_ranks}
+use Rattle.rank_threads.specs.Totals.{RoseByAnswers, over_ranks}
 
 -- where each share rises by what its rank's requests and answers come to, so do all together
 pub sums_rise : (limit : ℕ) (f : ShareData → ℕ) (g : List Work → List WorkAnswer → ℕ) → ((s : ShareData) (w : List Work) (a : List WorkAnswer) (t : ShareData) → IsReturned limit s w a t → f t ≡ f s + g w a)
@@ -46,20 +46,26 @@ same_weight limit (s ∷ olds) (w ∷ scripts) (a ∷ answers) [] h = absurd h
 
 -- what a phase leaves to a caller that has all shares
 
-pub whole_after : (exports : Bool) (limit : ℕ) (old new : World) (olds : List ShareData) (scripts : List (List Work)) (answers : List (List WorkAnswer)) (news : List ShareData) → WentOnBy exports old new
+pub whole_after : (r x : Bool) (limit : ℕ) (old new : World) (olds : List ShareData) (scripts : List (List Work)) (answers : List (List WorkAnswer)) (news : List ShareData) → WentOnBy r x old new
     → AreReturned limit olds scripts answers news → weight_of olds ≡ old.shares → weight_of news ≡ new.shares
-whole_after exports limit old new olds scripts answers news went h whole = same_weight limit olds scripts answers news h ∙ (whole ∙ sym went.same_book.1)
+whole_after r x limit old new olds scripts answers news went h whole = same_weight limit olds scripts answers news h ∙ (whole ∙ sym went.same_book.1)
 
-pub begun_after : (limit : ℕ) (old new : World) (olds : List ShareData) (scripts : List (List Work)) (answers : List (List WorkAnswer)) (news : List ShareData) → AreReturned limit olds scripts answers news
-    → ((d : ℕ) → at old.state.begun d ≡ begun_of olds d) → ((d : ℕ) → at new.state.begun d ≡ begun_of news d)
-    → (d : ℕ) → d < limit → at new.state.begun d ≡ at old.state.begun d + over_ranks (begun_on d) scripts answers
-begun_after limit old new olds scripts answers news h before after d inside =
-    let rise = sums_rise limit (λ s. at s.begun d) (begun_on d) (λ s w a t r. r.begun d inside) olds scripts answers news h in
-    after d ∙ (rise ∙ ap (λ n. n + over_ranks (begun_on d) scripts answers) (sym (before d)))
+-- the board counts what all shares count
+pub record IsAudited (w : World) (shares : List ShareData) : Type 0 where
+  pub begun : (d : ℕ) → at w.state.begun d ≡ begun_of shares d
+  pub hits : (e : ℕ) → at w.state.counted e + pending_of shares e ≡ hits_of shares e
 
-pub hits_after : (limit : ℕ) (old new : World) (olds : List ShareData) (scripts : List (List Work)) (answers : List (List WorkAnswer)) (news : List ShareData) → AreReturned limit olds scripts answers news
-    → ((e : ℕ) → at old.state.counted e + pending_of olds e ≡ hits_of olds e) → ((e : ℕ) → at new.state.counted e + pending_of news e ≡ hits_of news e)
-    → (e : ℕ) → e < limit + limit → at new.state.counted e + pending_of news e ≡ (at old.state.counted e + pending_of olds e) + over_ranks (hits_on e) scripts answers
-hits_after limit old new olds scripts answers news h before after e inside =
-    let rise = sums_rise limit (λ s. at s.hits e) (hits_on e) (λ s w a t r. r.hits e inside) olds scripts answers news h in
-    after e ∙ (rise ∙ ap (λ n. n + over_ranks (hits_on e) scripts answers) (sym (before e)))
+pub totals_after : (limit : ℕ) (old new : World) (olds : List ShareData) (scripts : List (List Work)) (answers : List (List WorkAnswer)) (news : List ShareData)
+    → AreReturned limit olds scripts answers news → IsAudited old olds → IsAudited new news → weight_of news ≡ new.shares
+    → RoseByAnswers limit old new olds scripts answers news
+totals_after limit old new olds scripts answers news h before after whole = record {
+  whole = whole;
+  begun = λ d inside.
+      after.begun d
+      ∙ (sums_rise limit (λ s. at s.begun d) (begun_on d) (λ s w a t r. r.begun d inside) olds scripts answers news h
+      ∙ ap (λ n. n + over_ranks (begun_on d) scripts answers) (sym (before.begun d)));
+  hits = λ e inside.
+      after.hits e
+      ∙ (sums_rise limit (λ s. at s.hits e) (hits_on e) (λ s w a t r. r.hits e inside) olds scripts answers news h
+      ∙ ap (λ n. n + over_ranks (hits_on e) scripts answers) (sym (before.hits e)));
+}

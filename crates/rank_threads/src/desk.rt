@@ -1,5 +1,5 @@
 //! A thread for the requests of one rank.
-ghost use Rattle.std.specs.Prelude.{◌≡◌, ◌≤◌, [], IfErr, IfOk, length, vec_capacity};
+ghost use Rattle.std.specs.Prelude.{◌≡◌, ◌≤◌, [], IfErr, IfOk, length, true, vec_capacity};
 ghost use Rattle.rank_threads.specs.Answered.{IsRankServed};
 
 use crate::route::Route;
@@ -137,6 +137,7 @@ impl<
 
     // Serves the requests of a rank, or refuses them where it has no thread.
     fn serve<W: Route>(&self, rank: Rank, script: &Vec<Work>, desk: Desk<J, W>) -> Done<J, W, K>
+        requires requests { K.requests ≡ true }
         requires empty { desk.answers.items ≡ [] }
         requires room { length script.now.items ≤ vec_capacity desk.answers }
         ensures { IsRankServed J.limit K.before result.known.seen (record { share = desk.share; way = W.way desk.way })
@@ -168,6 +169,7 @@ impl<
         desk: Desk<J, W>,
         promise: Served<J, W, K>,
     ) -> Result<PromisedHandle<Done<J, W, K>, Served<J, W, K>>, Done<J, W, K>>
+        requires requests { K.requests ≡ true }
         requires empty { desk.answers.items ≡ [] }
         requires room { length script.now.items ≤ vec_capacity desk.answers }
         requires promise { promise ≡ record {
@@ -179,7 +181,8 @@ impl<
             done.answers.items (record { share = done.share; way = W.way done.way }) done.known.tickets) }
     {
         let served = move || -> Done<J, W, K>
-            requires { (desk.answers.items ≡ []) × (length script.now.items ≤ vec_capacity desk.answers) }
+            requires { (desk.answers.items ≡ []) × (length script.now.items ≤ vec_capacity desk.answers)
+                × (K.requests ≡ true) }
             ensures { IsRankServed J.limit K.before result.known.seen
                 (record { share = desk.share; way = W.way desk.way }) script.entry.now.items result.answers.items
                 (record { share = result.share; way = W.way result.way }) result.known.tickets }
@@ -203,6 +206,7 @@ impl<
         script: &'s Vec<Work>,
         desk: Desk<J, W>,
     ) -> AskedRank<J, W, K>
+        requires requests { K.requests ≡ true }
         requires empty { desk.answers.items ≡ [] }
         requires room { length script.now.items ≤ vec_capacity desk.answers }
         ensures { result ≡ record {

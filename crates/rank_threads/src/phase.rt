@@ -1,5 +1,5 @@
 //! The requests of all ranks, by a thread a rank.
-ghost use Rattle.std.specs.Prelude.{◌≡◌, ◌<◌, ◌≤◌, ◌+◌, [], ◌∷◌, ◌++◌, IfErr, IfOk, IsOk, List, false};
+ghost use Rattle.std.specs.Prelude.{◌≡◌, ◌<◌, ◌≤◌, ◌+◌, [], ◌∷◌, ◌++◌, IfErr, IfOk, IsOk, List, false, true};
 ghost use Rattle.std.specs.Prelude.{OnErr, length, map, vec_capacity, vec_len};
 ghost use Rattle.std.specs.List.{All, AllZip};
 ghost use Rattle.heat_ledger.specs.Ledger.{IsClean, ShareData};
@@ -7,7 +7,7 @@ ghost use Rattle.rank_threads.specs.declared.work.Work.{Work as TheWork};
 ghost use Rattle.rank_threads.specs.Answered.{IsDepositTold};
 ghost use Rattle.phased_board.specs.Begun.{IsEndTold};
 ghost use Rattle.rank_threads.specs.Asking.{AreLaid, AreServed, IsRoomFor, askings};
-ghost use Rattle.phased_board.specs.Going.{WentOn, WentOnBy};
+ghost use Rattle.export_rounds.specs.Going.{WentOnBy};
 ghost use Rattle.rank_threads.specs.Serving.{IsDeposited};
 ghost use Rattle.rank_threads.specs.Ways.{At, Way, hands_of, own_ranks};
 ghost use Rattle.proof_names.specs.Numbers.{AreApart};
@@ -19,10 +19,10 @@ use crate::work::{Work, WorkAnswer};
 use authority_map::Publisher;
 use export_rounds::Gate;
 use heat_ledger::Share;
-use mds_board::{Board, BoardError, Entry};
+use mds_board::{Board, BoardError};
 use mds_types::Rank;
-use phased_board::{Known, Phase, Phased, first_refusal};
-use proof_names::{Naming, NewLog, NewNumbers};
+use phased_board::{Known, Phase, PhaseNames, Phased, first_refusal};
+use proof_names::Naming;
 use std::alloc::{AllocError, AllocFailed, Global};
 use std::marker::{Brand, Send, Sync};
 use std::sync::{Mutex, Wait};
@@ -71,6 +71,7 @@ fn deposit<J: Naming, M: Publisher<J>, K: Phase, R: Wait>(
     of_rank: Known<K>,
     share: &mut Share<J>,
 ) -> Result<(), BoardError>
+    requires { K.requests ≡ true }
     ensures deposited { IsDeposited share.old share.new }
     ensures clean { IsOk result → IsClean share.new }
     ensures told { IsDepositTold K.before known.new.seen result }
@@ -89,6 +90,7 @@ fn with_desk<J: Naming, M: Publisher<J>, W: Route, K: Phase, R: Wait>(
     ranks: Joined<J, W, K>,
     done: Done<J, W, K>,
 ) -> Joined<J, W, K>
+    requires requests { K.requests ≡ true }
     requires shares { vec_len ranks.shares < vec_capacity ranks.shares }
     requires ways { vec_len ranks.ways < vec_capacity ranks.ways }
     requires answers { vec_len ranks.answers < vec_capacity ranks.answers }
@@ -173,6 +175,7 @@ impl<
         scripts: &'s [Vec<Work>],
         laid: Laid<J, W, K>,
     ) -> Laid<J, W, K>
+        requires requests { K.requests ≡ true }
         requires laid { AreLaid scripts.now laid.shares (vec_len laid.ways) laid.rooms laid.asked }
         ensures asked { result.asked.items ≡ askings (hands_of laid.shares.items (map W.way laid.ways.items))
             (map (λ s. s.items) scripts.now) }
@@ -210,6 +213,7 @@ impl<
         asked: Vec<AskedRank<J, W, K>>,
         ranks: Joined<J, W, K>,
     ) -> Joined<J, W, K>
+        requires requests { K.requests ≡ true }
         requires none { (ranks.shares.items ≡ []) × (ranks.ways.items ≡ []) × (ranks.answers.items ≡ []) }
         requires given { ranks.known.tickets ≡ [] }
         requires deposited { IsOk ranks.deposited }
@@ -240,6 +244,7 @@ impl<
         laid: Laid<J, W, K>,
         meanwhile: F,
     ) -> Joined<J, W, K>
+        requires requests { K.requests ≡ true }
         requires laid { AreLaid scripts.now laid.shares (vec_len laid.ways) laid.rooms laid.asked }
         requires meanwhile { F.IsAlwaysCallable meanwhile }
         ensures { AreServed J.limit K.before result.known.seen laid.shares.items (map W.way laid.ways.items)
@@ -284,6 +289,7 @@ pub fn serve_ranks<
     laid: Laid<J, W, K>,
     meanwhile: F,
 ) -> Joined<J, W, K>
+    requires requests { K.requests ≡ true }
     requires laid { AreLaid scripts.now laid.shares (vec_len laid.ways) laid.rooms laid.asked }
     requires meanwhile { F.IsAlwaysCallable meanwhile }
     ensures { AreServed J.limit K.before result.known.seen laid.shares.items (map W.way laid.ways.items)
@@ -296,7 +302,7 @@ pub fn serve_ranks<
         rt,
         |scope| -> Joined<J, W, K>
             requires { AreLaid scripts.now laid.shares (vec_len laid.ways) laid.rooms laid.asked
-                × F.IsAlwaysCallable meanwhile }
+                × F.IsAlwaysCallable meanwhile × (K.requests ≡ true) }
             ensures { AreServed J.limit K.before result.known.seen laid.shares.items (map W.way laid.ways.items)
                 (map (λ s. s.items) scripts.entry.now) (map (λ a. a.items) result.answers.items) result.shares.items
                 (map W.way result.ways.items) result.deposited }
@@ -355,8 +361,9 @@ pub fn close<J: Naming, M: Publisher<J>, W: Route, K: Phase>(
     first: usize,
     joined: Joined<J, W, K>,
 ) -> (Phased<J, M, K>, Ranks<J>, Vec<W>)
+    requires requests { K.requests ≡ true }
     requires first { first ≡ length K.before.history }
-    ensures went { WentOnBy K.exports K.before result.0 }
+    ensures went { WentOnBy K.requests K.exports K.before result.0 }
     ensures served { (shares : List ShareData) (ways : List Way) (scripts : List (List TheWork))
         → AreServed J.limit K.before joined.known.seen shares ways scripts (map (λ a. a.items) joined.answers.items)
         joined.shares.items (map W.way joined.ways.items) joined.deposited → AreServed J.limit K.before result.0.history
@@ -395,28 +402,29 @@ fn serve_named<
     rt: &R,
     alloc: Global,
     board: Board<J, M>,
-    names: (NewLog<Entry>, NewNumbers),
+    names: PhaseNames,
     gate: &G,
     scripts: &[Vec<Work>],
-    shares: Vec<Share<J>>,
-    ways: Vec<OwnRank>,
+    hands: (Vec<Share<J>>, Vec<OwnRank>),
 ) -> (Board<J, M>, Result<Ranks<J>, AllocFailed<Vec<Share<J>>>>)
     requires board { board ≡ K.before }
     requires orders { K.orders ≡ [] }
+    requires requests { K.requests ≡ true }
     requires exports { K.exports ≡ false }
-    requires log { names.0 ≡ K.log }
-    requires tickets { names.1 ≡ K.numbers }
+    requires log { names.log ≡ K.log }
+    requires tickets { names.tickets ≡ K.numbers }
     requires few { length scripts.now ≤ 64 }
-    requires equal { vec_len shares ≡ length scripts.now }
-    requires ways { map (λ own. At own.rank) ways.items ≡ own_ranks 0 (length scripts.now) }
-    ensures board { WentOn K.before result.0 }
-    ensures served { IfOk result.1 (λ ranks. AreServed J.limit K.before result.0.history shares.items
+    requires equal { vec_len hands.0 ≡ length scripts.now }
+    requires ways { map (λ own. At own.rank) hands.1.items ≡ own_ranks 0 (length scripts.now) }
+    ensures board { WentOnBy true false K.before result.0 }
+    ensures served { IfOk result.1 (λ ranks. AreServed J.limit K.before result.0.history hands.0.items
         (own_ranks 0 (length scripts.now)) (map (λ s. s.items) scripts.now) (map (λ a. a.items) ranks.answers.items)
         ranks.shares.items (own_ranks 0 (length scripts.now)) ranks.deposited) }
     ensures ended { IfOk result.1 (λ ranks. IsEndTold K.before result.0 ranks.ended) }
-    ensures memory { IfErr result.1 (λ e. e.value.items ≡ shares.items) }
+    ensures memory { IfErr result.1 (λ e. e.value.items ≡ hands.0.items) }
     ensures unchanged { OnErr result.1 (result.0 ≡ board) }
 {
+    let (shares, ways) = hands;
     let laid = match lay::<J, OwnRank, K>(alloc, scripts, shares, ways) {
         Ok(laid) => laid,
         Err(refused) => {
@@ -425,8 +433,7 @@ fn serve_named<
         }
     };
     let first = board.history().len();
-    let (log, tickets) = names;
-    let phased = Phased::<J, M, K>::new(board, Vec::new(alloc), false, log, tickets);
+    let phased = Phased::<J, M, K>::new(board, Vec::new(alloc), false, names);
     let cell = Mutex::new(phased);
     let joined = serve_ranks(rt, alloc, &cell, gate, scripts, laid, || {});
     let (phased, ranks, _ways) = close(alloc, cell.into_inner(), first, joined);
@@ -470,7 +477,7 @@ pub fn serve_phase<
 ) -> (Board<J, M>, Result<Ranks<J>, AllocFailed<Vec<Share<J>>>>)
     requires few { length scripts.now ≤ 64 }
     requires equal { vec_len shares ≡ length scripts.now }
-    ensures board { WentOn board result.0 }
+    ensures board { WentOnBy true false board result.0 }
     ensures served { IfOk result.1 (λ ranks. AreServed J.limit board result.0.history shares.items
         (own_ranks 0 (length scripts.now)) (map (λ s. s.items) scripts.now) (map (λ a. a.items) ranks.answers.items)
         ranks.shares.items (own_ranks 0 (length scripts.now)) ranks.deposited) }
@@ -481,17 +488,9 @@ pub fn serve_phase<
     let Ok(ways) = own_ways(alloc, scripts.len()) else {
         return (board, Err(AllocFailed { value: shares }));
     };
-    let (Ok(log), Ok(tickets)) = (NewLog::new(alloc), NewNumbers::new(alloc)) else {
+    let Ok(names) = PhaseNames::new(alloc) else {
         return (board, Err(AllocFailed { value: shares }));
     };
-    serve_named::<J, M, Brand, R, G>(
-        rt,
-        alloc,
-        board,
-        (log, tickets),
-        gate,
-        scripts,
-        shares,
-        ways,
-    )
+    let hands = (shares, ways);
+    serve_named::<J, M, Brand, R, G>(rt, alloc, board, names, gate, scripts, hands)
 }

@@ -95,6 +95,7 @@ impl<
         work: Work,
         done: &mut Done<J, W, K>,
     ) -> WorkAnswer
+        requires { K.requests ≡ true }
         ensures fits { Fits work result }
         ensures counted { Counted J.limit done.old.share (work ∷ []) (result ∷ []) done.new.share }
         ensures short { IsShort J.limit done.new.share work.dir work.kind result.refused }
@@ -134,6 +135,7 @@ impl<
         work: Work,
         done: &mut Done<J, W, K>,
     ) -> WorkAnswer
+        requires { K.requests ≡ true }
         ensures fits { Fits work result }
         ensures counted { Counted J.limit done.old.share (work ∷ []) (result ∷ []) done.new.share }
         ensures short { IsShort J.limit done.new.share work.dir work.kind result.refused }
@@ -160,6 +162,7 @@ impl<
         script: &[Work],
         done: &mut Done<J, W, K>,
     )
+        requires requests { K.requests ≡ true }
         requires empty { done.old.answers.items ≡ [] }
         requires room { length script.now ≤ vec_capacity done.old.answers }
         requires none { done.old.known.tickets ≡ [] }

@@ -2,7 +2,8 @@
 use Rattle.std.specs.List.{list_any}
 use Rattle.std.specs.Option.{option_map}
 use Rattle.std.specs.Prelude.{◌≡◌, ℕ, ◌<◌, ◌+◌, ◌==◌, nat_lt, if◌then◌else◌, Bool, not, List, [], ◌∷◌, ◌++◌}
-use Rattle.std.specs.Prelude.{filter, length, map, slice_get, slice_index_or, Option, Some, None, Result, Ok, Err}
+use Rattle.std.specs.Prelude.{false, filter, length, map, slice_get, slice_index_or, true}
+use Rattle.std.specs.Prelude.{Option, Some, None, Result, Ok, Err}
 use Rattle.authority_map.specs.Operations.{rank_after}
 use Rattle.dirtree.specs.Tree as tree
 use Rattle.heat_ledger.specs.Ledger.{pending_of}
@@ -11,9 +12,9 @@ use Rattle.mds_board.specs.declared.board_error.BoardError.{BoardError}
 use Rattle.mds_board.specs.History.{World}
 use Rattle.rank_threads.specs.declared.work.Work.{Work}
 use Rattle.rank_threads.specs.declared.work.WorkAnswer.{WorkAnswer}
+use Rattle.export_rounds.specs.Going.{WentOnBy}
 use Rattle.phased_board.specs.Begun.{IsEndTold}
 use Rattle.rank_threads.specs.Asking.{AreServed}
-use Rattle.phased_board.specs.Going.{WentOn}
 use Rattle.rank_threads.specs.Serving.{begun_on, hits_on}
 use Rattle.rank_threads.specs.Totals.{over_ranks}
 use Rattle.rank_threads.specs.Ways.{own_ranks}
@@ -104,7 +105,7 @@ pub record IsServed (old : BoardData) (refused : List Fault) (new : BoardData) :
   pub served : AreServed old.world.state.directories.limit old.world new.world.history old.shares
       (own_ranks 0 (length old.shares)) scripts answers new.shares (own_ranks 0 (length old.shares)) deposited
   pub end_told : IsEndTold old.world new.world ended
-  pub went : WentOn old.world new.world
+  pub went : WentOnBy true false old.world new.world
   pub begun : (d : ℕ) → d < old.world.state.directories.limit → at new.world.state.begun d
       ≡ at old.world.state.begun d + over_ranks (begun_on d) scripts answers
   pub counted : (e : ℕ) → e < old.world.state.directories.limit + old.world.state.directories.limit

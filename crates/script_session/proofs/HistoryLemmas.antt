@@ -1,7 +1,8 @@
 -- Each line leaves a longer history, or the same.
-use Rattle.std.proofs.Common.{◌≡◌, ◌==◌, ℕ, Bool, true, false, cond, List, [], ◌∷◌, ◌++◌, length, drop, refl, sym, ap, subst, ◌∙◌, append_assoc, append-nil, inl, inr, Option, Some, None, Result, Ok, Err}
-use Rattle.std.proofs.lemmas.List.{take-append-drop}
+use Rattle.std.proofs.Common.{◌≡◌, ◌==◌, ℕ, Bool, true, false, cond, List, [], ◌∷◌, ◌++◌, length, refl, sym, ap, subst, ◌∙◌, append_assoc, append-nil, inl, inr, Option, Some, None, Result, Ok, Err}
 use Rattle.std.specs.Prelude.{option_map}
+use Rattle.export_rounds.specs.Going.{WentOnBy, added}
+use Rattle.export_rounds.proofs.Going.{parts_of}
 use Rattle.mds_board.specs.declared.board_error.BoardError.{BoardError}
 use Rattle.mds_board.specs.declared.change.Change.{Change}
 use Rattle.mds_board.specs.declared.change.Change.TheVariants as change
@@ -99,11 +100,11 @@ from_begin : (b : BoardData) (rank : ℕ) (path : List ℕ) (y : Stepped) → (f
 from_begin b rank path y is =
     step_bound b y (find b path) _ (λ d _ begun. step_bound b y (take_step b (event.Begin rank d)) _ (λ done told counted. counted_longer b done y rank d (from_step b (event.Begin rank d) done told) counted) begun) is
 
+went_longer : (r x : Bool) (b new : BoardData) → WentOnBy r x b.world new.world → Longer b new
+went_longer r x b new went = (added b.world new.world, parts_of r x b.world new.world went)
+
 gone_longer : (b : BoardData) (refused : List Fault) (new : BoardData) → IsGone b refused new → Longer b new
-gone_longer b refused new h =
-    let before : List Entry = b.world.history in
-    let now : List Entry = new.world.history in
-    (drop (length before) now, sym (take-append-drop (length before) now) ∙ ap (λ (es : List Entry). es ++ drop (length before) now) h.0.went.kept)
+gone_longer b refused new h = went_longer true false b new h.0.went
 
 planned_longer : (b : BoardData) (plan : Plan) (new : BoardData) → new ≡ planned b plan → Longer b new
 planned_longer b plan new is =
@@ -126,7 +127,7 @@ does_longer b line.Go p ample new h = gone_longer b p.refused new h.0
 does_longer b line.Tick p ample new h = from_changed b new change.Tick h.0
 does_longer b (line.Cost paths) p ample new h = same_longer b new h.4
 does_longer b line.Plan p ample new h = planned_longer b h.0 new h.1.adopted
-does_longer b line.Move p ample new h = (h.2.further.more, h.2.further.history)
+does_longer b line.Move p ample new h = went_longer false true b new h.2.went
 does_longer b (line.Stop rank) p ample new h = from_changed b new _ h.0
 does_longer b (line.Restart rank) p ample new h = from_changed b new _ h.0
 does_longer b line.Stat p ample new h = same_longer b new h.2

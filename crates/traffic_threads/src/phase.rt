@@ -2,10 +2,10 @@
 ghost use Rattle.std.specs.Prelude.{◌≡◌, ◌≤◌, [], IfErr, IfOk, OnErr, count_by, length, map, true};
 ghost use Rattle.std.specs.Prelude.{vec_capacity, vec_len};
 ghost use Rattle.export_rounds.specs.Asked.{AreAsked, is_begun};
+ghost use Rattle.export_rounds.specs.Going.{WentOnBy};
 ghost use Rattle.export_rounds.specs.Outcomes.{AreAll, AreOutcomes};
 ghost use Rattle.phased_board.specs.Begun.{IsEndTold};
 ghost use Rattle.rank_threads.specs.Asking.{AreServed};
-ghost use Rattle.phased_board.specs.Going.{WentOnBy};
 ghost use Rattle.rank_threads.specs.Ways.{ByMap};
 
 use authority_map::{MapReader, Publisher};
@@ -13,9 +13,9 @@ use export_rounds::closing::tell;
 use export_rounds::{Gate, Unsettled};
 use export_threads::{Outcome, Prepared, carry_out, prepare};
 use heat_ledger::Share;
-use mds_board::{Board, Entry};
+use mds_board::Board;
 use mds_types::Order;
-use proof_names::{Naming, NewLog, NewNumbers};
+use proof_names::Naming;
 use rank_threads::phase::{close, lay, serve_ranks};
 use rank_threads::{Phase, Phased, Ranks, Work};
 use std::alloc::{AllocFailed, Global};
@@ -43,13 +43,6 @@ pub struct Tasks<'a> {
     pub orders: &'a [Order],
 }
 
-// What a phase begins with besides its board: the log of what happens to it, and the giver of its tickets.
-#[derive(Drop)]
-struct Names {
-    log: NewLog<Entry>,
-    tickets: NewNumbers,
-}
-
 // The phase over a board that `K` names.
 fn traffic_named<
     J: Naming + Send + Sync,
@@ -62,59 +55,59 @@ fn traffic_named<
     rt: &R,
     alloc: Global,
     board: Board<J, M>,
-    names: Names,
     prepared: Prepared,
-    gate: &G,
-    rounds: &H,
-    scripts: &[Vec<Work>],
-    orders: &[Order],
-    shares: Vec<Share<J>>,
-    readers: Vec<MapReader<J>>,
+    hands: (Vec<Share<J>>, Vec<MapReader<J>>),
+    tasks: Tasks<'_>,
+    gates: (&G, &H),
 ) -> (
     Board<J, M>,
     Result<Traffic<J>, AllocFailed<(Vec<Share<J>>, Vec<MapReader<J>>)>>,
 )
     requires board { board ≡ K.before }
-    requires orders { orders.now ≡ K.orders }
+    requires orders { tasks.orders.now ≡ K.orders }
+    requires requests { K.requests ≡ true }
     requires exports { K.exports ≡ true }
-    requires log { names.log ≡ K.log }
-    requires tickets { names.tickets ≡ K.numbers }
-    requires asked { AreAsked board board orders.now prepared.standings.items }
+    requires log { prepared.names.log ≡ K.log }
+    requires tickets { prepared.names.tickets ≡ K.numbers }
+    requires asked { AreAsked board board tasks.orders.now prepared.standings.items }
     requires none { count_by is_begun prepared.standings.items ≡ 0 }
-    requires room { (prepared.outcomes.items ≡ []) × (length orders.now ≤ vec_capacity prepared.outcomes) }
-    requires few { length scripts.now ≤ 64 }
-    requires equal { vec_len shares ≡ length scripts.now }
-    requires readers { vec_len readers ≡ length scripts.now }
-    ensures board { WentOnBy true board result.0 }
-    ensures served { IfOk result.1 (λ t. AreServed J.limit board result.0.history shares.items (map ByMap readers.items)
-        (map (λ s. s.items) scripts.now) (map (λ a. a.items) t.ranks.answers.items) t.ranks.shares.items
-        (map ByMap t.readers.items) t.ranks.deposited) }
+    requires room { (prepared.outcomes.items ≡ []) × (length tasks.orders.now ≤ vec_capacity prepared.outcomes) }
+    requires few { length tasks.scripts.now ≤ 64 }
+    requires equal { vec_len hands.0 ≡ length tasks.scripts.now }
+    requires readers { vec_len hands.1 ≡ length tasks.scripts.now }
+    ensures board { WentOnBy true true board result.0 }
+    ensures served { IfOk result.1 (λ t. AreServed J.limit board result.0.history hands.0.items
+        (map ByMap hands.1.items) (map (λ s. s.items) tasks.entry.scripts.now)
+        (map (λ a. a.items) t.ranks.answers.items) t.ranks.shares.items (map ByMap t.readers.items)
+        t.ranks.deposited) }
     ensures ended { IfOk result.1 (λ t. IsEndTold board result.0 t.ranks.ended) }
-    ensures outcomes { IfOk result.1 (λ t. AreOutcomes board result.0 orders.now t.outcomes.items) }
+    ensures outcomes { IfOk result.1 (λ t. AreOutcomes board result.0 tasks.entry.orders.now t.outcomes.items) }
     ensures all { IfOk result.1 (λ t. AreAll board result.0 t.outcomes.items) }
-    ensures memory { IfErr result.1 (λ e. (e.value.0.items ≡ shares.items) × (e.value.1.items ≡ readers.items)) }
+    ensures memory { IfErr result.1 (λ e. (e.value.0.items ≡ hands.0.items) × (e.value.1.items ≡ hands.1.items)) }
     ensures unchanged { OnErr result.1 (result.0 ≡ board) }
 {
-    let laid = match lay::<J, MapReader<J>, K>(alloc, scripts, shares, readers) {
+    let (shares, readers) = hands;
+    let laid = match lay::<J, MapReader<J>, K>(alloc, tasks.scripts, shares, readers) {
         Ok(laid) => laid,
         Err(refused) => return (board, Err(refused)),
     };
-    let Names { log, tickets } = names;
     let Prepared {
         mut outcomes,
         standings,
         ranks: places,
+        names,
     } = prepared;
+    let (gate, rounds) = gates;
     let first = board.history().len();
-    let cell = Mutex::new(Phased::<J, M, K>::new(board, standings, true, log, tickets));
+    let cell = Mutex::new(Phased::<J, M, K>::new(board, standings, true, names));
     let joined = serve_ranks(
         rt,
         alloc,
         &cell,
         gate,
-        scripts,
+        tasks.scripts,
         laid,
-        || carry_out(rt, alloc, &cell, rounds, orders, places),
+        || carry_out(rt, alloc, &cell, rounds, tasks.orders, places),
     );
     let (phased, ranks, readers) = close(alloc, cell.into_inner(), first, joined);
     let (board, standings) = phased.into_parts();
@@ -162,7 +155,7 @@ pub fn traffic_phase<
     requires few { length tasks.scripts.now ≤ 64 }
     requires equal { vec_len shares ≡ length tasks.scripts.now }
     requires readers { vec_len readers ≡ length tasks.scripts.now }
-    ensures board { WentOnBy true board result.0 }
+    ensures board { WentOnBy true true board result.0 }
     ensures served { IfOk result.1 (λ t. AreServed J.limit board result.0.history shares.items (map ByMap readers.items)
         (map (λ s. s.items) tasks.entry.scripts.now) (map (λ a. a.items) t.ranks.answers.items) t.ranks.shares.items
         (map ByMap t.readers.items) t.ranks.deposited) }
@@ -172,14 +165,6 @@ pub fn traffic_phase<
     ensures memory { IfErr result.1 (λ e. (e.value.0.items ≡ shares.items) × (e.value.1.items ≡ readers.items)) }
     ensures unchanged { OnErr result.1 (result.0 ≡ board) }
 {
-    let (Ok(log), Ok(tickets)) = (NewLog::new(alloc), NewNumbers::new(alloc)) else {
-        return (
-            board,
-            Err(AllocFailed {
-                value: (shares, readers),
-            }),
-        );
-    };
     let Ok(prepared) = prepare(alloc, &board, tasks.orders, unsettled) else {
         return (
             board,
@@ -192,13 +177,9 @@ pub fn traffic_phase<
         rt,
         alloc,
         board,
-        Names { log, tickets },
         prepared,
-        gate,
-        rounds,
-        tasks.scripts,
-        tasks.orders,
-        shares,
-        readers,
+        (shares, readers),
+        tasks,
+        (gate, rounds),
     )
 }

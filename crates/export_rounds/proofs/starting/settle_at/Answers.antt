@@ -10,7 +10,7 @@ returns-clause-asked g c = λ first orders h all.
     let standing = c.in_ok-standing.standing.now in
     let near : c.args.number < length standings = grind (arith, common_steps, c.in_ok-standing.ensures.variant, c.in_ok-standing.was) in
     let is : get_or standings c.args.number standing ≡ standing = sym c.in_ok-standing.ensures.value in
-    one_changed first c.args.board.now c.settle.new.board orders standings c.args.number c.settle.new.standing standing c.settle.ensures.further near
+    one_changed first c.args.board.now c.settle.new.board orders standings c.args.number c.settle.new.standing standing c.settle.ensures.went near
     (λ order asked. c.settle.ensures.asked first order h (subst (λ s. IsAsked first c.args.board.now order s) is asked)) all
 
 pub returns-clause-counted : goal.returns-clause-counted

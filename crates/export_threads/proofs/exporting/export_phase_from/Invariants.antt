@@ -1,5 +1,13 @@
+use Rattle.std.proofs.Common.{false, true}
 use Rattle.export_threads.proofs.exporting.export_phase_from.Given as goal
 
--- the phase's name is that of the board with which it begins, and of its orders
-abbrev pub ghosts-carry_out_named : goal.ghosts-carry_out_named
-ghosts-carry_out_named g a = record { before = a.board; orders = a.orders.now }
+-- the phase's name is that of the board with which it begins, of its orders, its log and its giver of tickets
+
+abbrev pub ghosts-carry_out_named-K-Phase : goal.ghosts-carry_out_named-K-Phase
+ghosts-carry_out_named-K-Phase g a = record { before = a.board; orders = a.orders.now; requests = false; exports = true }
+
+abbrev pub ghosts-carry_out_named-K-LogName : goal.ghosts-carry_out_named-K-LogName
+ghosts-carry_out_named-K-LogName g a = record { log = a.prepared.names.log }
+
+abbrev pub ghosts-carry_out_named-K-NumbersName : goal.ghosts-carry_out_named-K-NumbersName
+ghosts-carry_out_named-K-NumbersName g a = record { numbers = a.prepared.names.tickets }

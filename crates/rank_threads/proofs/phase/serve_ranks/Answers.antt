@@ -6,7 +6,7 @@ scoped-requires g c =
     let b = c.type_bounds in
     record {
       at = λ a. (
-        (c.requires.laid, c.requires.meanwhile),
+        (c.requires.laid, c.requires.meanwhile, c.requires.requests),
         (
           search (rules, b.send-J.owned, b.send-J.leaving),
           search (rules, b.send-M.owned, b.send-M.leaving),

@@ -23,13 +23,13 @@ tell-requires-clause-room g c =
 pub returns-clause-served : goal.returns-clause-served
 returns-clause-served g c =
     let ranks = c.close-phased.result.1 in
-    let scripts = map (λ (s : Vec Work Global). s.items) c.args.scripts.now in
+    let scripts = map (λ (s : Vec Work Global). s.items) c.args.tasks.scripts.now in
     let answers = map (λ (a : Vec WorkAnswer Global). a.items) ranks.answers.items in
-    let ways = map (λ (r : List Operation). ByMap r) c.args.readers.items in
+    let ways = map (λ (r : List Operation). ByMap r) c.args.hands.1.items in
     let later = map (λ (r : List Operation). ByMap r) c.close-phased.result.2.items in
     let closed = c.close-phased.ensures.served c.in-Ok.laid.shares.items (map (λ (r : List Operation). ByMap r) c.in-Ok.laid.ways.items) scripts c.serve_ranks-joined.ensures in
-    subst (λ (b : World). AreServed g.J.Naming.limit b c.into_parts-board.result.0.history c.args.shares.items ways scripts answers ranks.shares.items later ranks.deposited) (sym c.requires.board)
-    (subst (λ (w : World). AreServed g.J.Naming.limit g.K.Phase.before w.history c.args.shares.items ways scripts answers ranks.shares.items later ranks.deposited) (sym c.into_parts-board.ensures.same)
+    subst (λ (b : World). AreServed g.J.Naming.limit b c.into_parts-board.result.0.history c.args.hands.0.items ways scripts answers ranks.shares.items later ranks.deposited) (sym c.requires.board)
+    (subst (λ (w : World). AreServed g.J.Naming.limit g.K.Phase.before w.history c.args.hands.0.items ways scripts answers ranks.shares.items later ranks.deposited) (sym c.into_parts-board.ensures.same)
     (rw (c.in-Ok.ensures.laid.1, c.in-Ok.ensures.laid.2) at closed))
 
 pub returns-clause-ended : goal.returns-clause-ended

@@ -47,6 +47,6 @@ loop-number-preserved g c =
 pub returns : goal.returns
 returns g c = (
   c.loop-number.invariant.refused,
-  λ ok. none_runs g.K.Phase.exports g.K.Phase.before c.args.self.now c.loop-number.self c.promises.ensures.went
+  λ ok. none_runs g.K.Phase.requests g.K.Phase.exports g.K.Phase.before c.args.self.now c.loop-number.self c.promises.ensures.went
       (λ k e low high is. c.loop-number.invariant.over ok k e (omega arith) (omega arith) is) c.loop-number.invariant.others,
 )

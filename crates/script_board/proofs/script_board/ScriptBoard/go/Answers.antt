@@ -27,7 +27,7 @@ invariant_of-after-2 g c =
     rw c.told-shares.ensures.shares record {
       some_shares = omega (arith, size, some);
       few_shares = omega (arith, size, few);
-      whole = rw c.in-Ok-done.is at c.serve_with_totals-board.ensures.whole;
+      whole = (rw c.in-Ok-done.is at c.serve_with_totals-board.ensures.totals).whole;
     }
 
 pub returns-clause-done : goal.returns-clause-done
@@ -57,8 +57,8 @@ returns-clause-done g c =
             (rw c.in-Ok-done.is at c.serve_with_totals-board.ensures.served));
         end_told = rw c.in-Ok-done.is at c.serve_with_totals-board.ensures.ended;
         went = c.serve_with_totals-board.ensures.board;
-        begun = λ d inside. (let all = rw c.in-Ok-done.is at c.serve_with_totals-board.ensures.begun in all d (subst (λ (n : ℕ). d < n) (sym limit) inside));
-        counted = λ e inside. (let all = rw c.in-Ok-done.is at c.serve_with_totals-board.ensures.hits in all e (subst (λ (n : ℕ). e < n + n) (sym limit) inside));
+        begun = λ d inside. (let all = (rw c.in-Ok-done.is at c.serve_with_totals-board.ensures.totals).begun in all d (subst (λ (n : ℕ). d < n) (sym limit) inside));
+        counted = λ e inside. (let all = (rw c.in-Ok-done.is at c.serve_with_totals-board.ensures.totals).hits in all e (subst (λ (n : ℕ). e < n + n) (sym limit) inside));
         told = c.told-shares.ensures.told;
       },
       c.clear.ensures.items,

@@ -1,5 +1,5 @@
 use Rattle.export_rounds.proofs.Going.{keeps}
-use Rattle.export_rounds.proofs.laws.further_keeps.Goals as goal
+use Rattle.export_rounds.proofs.laws.exports_keep.Goals as goal
 
 pub returns : goal.returns
 returns c = keeps
