@@ -58,7 +58,7 @@ pub struct Settings<'a> {
     pub strict: bool,
     /// The file that the certificates of the adopted plans are written to, if one is named.
     pub proofs: Option<&'a str>,
-    /// Whether no hints are written on standard error for lines that spell no command.
+    /// Whether no hints are written on standard error for lines that aren't accepted.
     pub quiet: bool,
 }
 
@@ -124,7 +124,7 @@ fn quiet_flag<'a>(alloc: Global) -> Arg<'a>
         .long("quiet")
         .action(ArgAction::SetTrue)
         .value_parser(value_parser!(bool))
-        .help("Write no hints on standard error for lines that are `syntax`")
+        .help("Write no hints on standard error for lines that aren't accepted")
 }
 
 // The program's command with `--limit` and `--strict`.

@@ -3,7 +3,7 @@ ghost use Rattle.std.specs.Prelude.{◌≡◌, ◌↔◌, IfOk, IsSome};
 ghost use Rattle.script_commands.specs.Commands.{Syntax, asked};
 
 use crate::command::kind_named;
-use crate::fields::{is_blank, is_field, is_plain_line};
+use crate::fields::{is_blank, is_field, is_plain_line, split_field};
 use crate::line::{Asked, read_line};
 use crate::number::{number, pin_value};
 use std::alloc::{AllocError, Global};
@@ -148,8 +148,7 @@ pub struct Form {
     fields: &'static [Field],
 }
 
-// A line of `cost` has any number of fields, so none is faulty.
-const FORMS: [Form; 22] = [
+const FORMS: [Form; 23] = [
     Form {
         word: "ranks",
         fields: &[ACTIVE],
@@ -185,6 +184,10 @@ const FORMS: [Form; 22] = [
     Form {
         word: "tick",
         fields: &[],
+    },
+    Form {
+        word: "cost",
+        fields: &[PATHS],
     },
     Form {
         word: "plan",
@@ -275,6 +278,12 @@ fn form_of(word: &[u8]) -> Option<Form> {
         }
     }
     None
+}
+
+/// The form of the command whose word a line begins with, if there is one.
+pub fn form_of_line(line: &[u8]) -> Option<Form> {
+    let (word, _) = split_field(line)?;
+    form_of(word)
 }
 
 /// Why a line spells no command. It prints as a text for people, without a newline.

@@ -4,6 +4,7 @@
 pub mod command;
 pub mod faults;
 mod fields;
+pub mod hint;
 pub mod line;
 pub mod new_export;
 mod number;
@@ -11,7 +12,8 @@ pub mod rank_count;
 pub mod step;
 
 pub use command::Command;
-pub use faults::{LineFault, explain};
+pub use faults::{Form, LineFault, explain, form_of_line};
+pub use hint::Hint;
 pub use line::{Asked, read_line};
 pub use new_export::NewExport;
 pub use rank_count::RankCount;

@@ -1,7 +1,7 @@
-//! What is said on standard error of a line that is answered `syntax`.
+//! What is said on standard error of a line that isn't accepted.
 
 use arrayvec::ArrayString;
-use script_commands::LineFault;
+use script_commands::Hint;
 use script_engine::write_whole;
 use script_session::Hints;
 use std::fmt::Write as _;
@@ -17,12 +17,12 @@ pub struct LineHints<'e, E> {
 }
 
 impl<E: Write> Hints for LineHints<'_, E> {
-    fn faulty_line(&mut self, number: u64, fault: &LineFault<'_>) {
+    fn faulty_line(&mut self, number: u64, hint: &Hint<'_>) {
         if self.quiet {
             return;
         }
         let mut text = ArrayString::<HINT_LIMIT>::new();
-        if writeln!(text, "mdbal: line {number}: {fault}").is_ok() {
+        if writeln!(text, "mdbal: line {number}: {hint}").is_ok() {
             let _ = write_whole(self.errors, text.as_str().as_bytes());
         }
     }

@@ -28,7 +28,7 @@ use std::thread::Threads;
 /// It is 0 where every line was accepted, 1 where one was not, 2 where the command line is refused or there is no
 /// memory to begin with, and 3 where a device failed, or the certificates of the adopted plans that `--proofs FILE`
 /// asks for could not all be written, or there are no random bytes to key the hash of names with. The help and the
-/// version end with 0. For a line that spells no command a line on
+/// version end with 0. For a line that isn't accepted a line on
 /// standard error says why, unless the words have `--quiet`.
 pub fn start<
     T: Threads + Wait + Files + RandomSource + Sync,

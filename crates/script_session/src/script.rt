@@ -58,7 +58,7 @@ impl Ended {
 /// is read. However a run ends, the certificates of the plans that the board has adopted are then written to `proofs`,
 /// where one is given.
 ///
-/// `hints` receives each line that is answered `syntax`, and why. It changes no answer.
+/// `hints` receives each line that isn't accepted, and why. It changes no answer.
 pub fn run<T: Threads + Wait + Sync, R: Read, W: Write, P: Write, H: Hints>(
     rt: &T,
     alloc: Global,

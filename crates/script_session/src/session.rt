@@ -47,6 +47,8 @@ pub struct Session<'r, J: Naming, M: Publisher<J>, R: Threads> {
     parts: Option<Parts<J, M>>,
     board: Option<ScriptBoard<J, M>>,
     page: Page,
+    /// Why the last line that wasn't accepted was not.
+    fault: Option<Fault>,
 }
 
 impl<'r, J: Naming, M: Publisher<J>, R: Threads> Model for Session<'r, J, M, R> {
@@ -88,7 +90,13 @@ impl<'r, J: Naming, M: Publisher<J>, R: Threads> Session<'r, J, M, R> {
             parts: Some(parts),
             board: None,
             page: Page::new(alloc),
+            fault: None,
         }
+    }
+
+    /// Why the last line that wasn't accepted was not, for a hint.
+    pub fn fault(&self) -> Option<Fault> {
+        self.fault
     }
 
     /// Ends the map, if there is one.
@@ -99,6 +107,7 @@ impl<'r, J: Naming, M: Publisher<J>, R: Threads> Session<'r, J, M, R> {
             parts,
             board,
             page: _page,
+            fault: _fault,
         } = self;
         if let Some(parts) = parts {
             parts.end();
@@ -190,6 +199,31 @@ impl<'r, J: Naming, M: Publisher<J>, R: Threads> Session<'r, J, M, R> {
         }
     }
 
+    // Keeps why a line isn't accepted, for a hint.
+    fn note(&mut self, fault: Option<&Fault>)
+        ensures { self.new ≡ self.old }
+    {
+        self.fault = fault.copied();
+    }
+
+    // Writes why a line is refused, which isn't accepted then.
+    fn refuse<W: Write>(
+        &mut self,
+        writer: &mut W,
+        number: u64,
+        fault: &Fault,
+    ) -> Result<bool, WriteFailed>
+        ensures ok { IfOk result (λ accepted. (accepted ≡ false)
+            × Appends (W.contents writer.old) (W.contents writer.new) (fault_text number (fault_words fault.now))) }
+        ensures err { OnErr result (AppendsFront (W.contents writer.old) (W.contents writer.new)
+            (fault_text number (fault_words fault.now))) }
+        ensures same { self.new ≡ self.old }
+    {
+        self.note(Some(fault));
+        write_fault(writer, number, *fault)?;
+        Ok(false)
+    }
+
     // Writes what was done, and publishes the map if the line is accepted. It says whether it is.
     fn settle<W: Write>(
         &mut self,
@@ -209,6 +243,7 @@ impl<'r, J: Naming, M: Publisher<J>, R: Threads> Session<'r, J, M, R> {
         match self.print(alloc, done, writer) {
             Ok(()) => {}
             Err(Unprinted::Memory) => {
+                self.note(Some(&Fault::Memory));
                 write_fault(writer, number, Fault::Memory)?;
                 return Ok(false);
             }
@@ -217,6 +252,7 @@ impl<'r, J: Naming, M: Publisher<J>, R: Threads> Session<'r, J, M, R> {
         let refused = done.refused();
         write_refused(writer, number, refused)?;
         if !refused.is_empty() {
+            self.note(refused.first());
             return Ok(false);
         }
         self.publish();
@@ -315,7 +351,7 @@ impl<'r, J: Naming + Send + Sync, M: Publisher<J> + Send, R: Threads + Wait + Sy
     {
         match self.carry_asked(alloc, what) {
             Ok(done) => self.settle(alloc, number, &done, writer),
-            Err(fault) => refuse(writer, number, fault),
+            Err(fault) => self.refuse(writer, number, &fault),
         }
     }
 
@@ -333,28 +369,17 @@ impl<'r, J: Naming + Send + Sync, M: Publisher<J> + Send, R: Threads + Wait + Sy
     {
         let what = match read_line(alloc, line) {
             Ok(what) => what,
-            Err(error) => return refuse(writer, number, Fault::from(error)),
+            Err(error) => return self.refuse(writer, number, &Fault::from(error)),
         };
         match self.change_quietly(alloc, &what) {
             Some(Ok(())) => {
                 self.publish();
                 Ok(true)
             }
-            Some(Err(fault)) => refuse(writer, number, fault),
+            Some(Err(fault)) => self.refuse(writer, number, &fault),
             None => self.answer_fully(alloc, number, what, writer),
         }
     }
-}
-
-// Writes why a line is refused, which isn't accepted then.
-fn refuse<W: Write>(writer: &mut W, number: u64, fault: Fault) -> Result<bool, WriteFailed>
-    ensures ok { IfOk result (λ accepted. (accepted ≡ false) × Appends (W.contents writer.old) (W.contents writer.new)
-        (fault_text number (fault_words fault))) }
-    ensures err { OnErr result (AppendsFront (W.contents writer.old) (W.contents writer.new)
-        (fault_text number (fault_words fault))) }
-{
-    write_fault(writer, number, fault)?;
-    Ok(false)
 }
 
 // Writes the lines of what was done to a board.

@@ -7,7 +7,7 @@ use Rattle.script_session.proofs.session.Session.answer.Goals as goal
 
 pub returns-in-Err : goal.returns-in-Err
 returns-in-Err g c =
-    let a = answered_no_room c.args.self.now c.args.self.now c.args.number c.args.line.now c.from.result refl c.from.ensures in (
+    let a = answered_no_room c.args.self.now c.refuse.new.self c.args.number c.args.line.now c.from.result c.refuse.ensures.same c.from.ensures in (
       IfOk-weaker c.refuse.result _ _ (λ accepted told. (a.0, a.1, told.0 ∙ a.2, rw (← a.3) told.1)) c.refuse.ensures.ok,
       on_err_weaker c.refuse.result (λ told. (a.0, a.1, rw (← a.3) told)) c.refuse.ensures.err,
     )
@@ -22,7 +22,7 @@ pub returns-in-Some-Err : goal.returns-in-Some-Err
 returns-in-Some-Err g c =
     let same = MatchResult-at_err _ _ _ c.in-Some-Err.field-0-is c.in-Some-Err.ensures.unchanged in
     let due = MatchResult-at_err _ _ _ c.in-Some-Err.field-0-is c.in-Some-Err.ensures.fault in
-    let a = answered_fault c.args.self.now c.change_quietly.new.self c.args.number c.args.line.now _ c.in-Some-Err.fault (sym c.in-Ok.ensures.asked) same due in (
+    let a = answered_fault c.args.self.now c.refuse-in-Some-Err.new.self c.args.number c.args.line.now _ c.in-Some-Err.fault (sym c.in-Ok.ensures.asked) (c.refuse-in-Some-Err.ensures.same ∙ same) due in (
       IfOk-weaker c.refuse-in-Some-Err.result _ _ (λ accepted told. (a.0, a.1, told.0 ∙ a.2, rw (← a.3, ← c.in-Some-Err.fault-is) told.1)) c.refuse-in-Some-Err.ensures.ok,
       on_err_weaker c.refuse-in-Some-Err.result (λ told. (a.0, a.1, rw (← a.3, ← c.in-Some-Err.fault-is) told)) c.refuse-in-Some-Err.ensures.err,
     )

@@ -12,7 +12,7 @@ returns-in-Ok g c = λ line asks.
 
 pub returns-in-Err : goal.returns-in-Err
 returns-in-Err g c = λ line asks.
-    let a = answered_fault c.args.self.now c.carry_asked.new.self c.args.number line _ c.in-Err.fault asks c.in-Err.ensures.unchanged c.in-Err.ensures.fault in (
+    let a = answered_fault c.args.self.now c.refuse.new.self c.args.number line _ c.in-Err.fault asks (c.refuse.ensures.same ∙ c.in-Err.ensures.unchanged) c.in-Err.ensures.fault in (
       IfOk-weaker c.refuse.result _ _ (λ accepted told. (a.0, a.1, told.0 ∙ a.2, rw (← a.3) told.1)) c.refuse.ensures.ok,
       on_err_weaker c.refuse.result (λ told. (a.0, a.1, rw (← a.3) told)) c.refuse.ensures.err,
     )

@@ -21,7 +21,7 @@ returns-in_err-write_fault-in-Err-Memory-clause-err g c =
     let cut = c.print.ensures.memory (c.in-Err-Memory.is ∙ ap Err c.in-Err-Memory.field-0-is) in
     rw e.1 (λ ample. (
       cut_answer c.args.number (take cut.0 p.lines),
-      told_cut c.args.number cut.0 p ample c.args.self.now c.print.new.self cut.1 c.print.ensures.same,
+      told_cut c.args.number cut.0 p ample c.args.self.now c.note.new.self cut.1 (c.note.ensures ∙ c.print.ensures.same),
       front_after (g.W.Write.contents c.args.writer.now) (g.W.Write.contents c.print.new.writer) (g.W.Write.contents c.write_fault.new.writer) (joined (take cut.0 p.lines)) (fault_text c.args.number (words Memory)) cut.2 c.in_err-write_fault-in-Err-Memory.ensures.err,
     ))
 
@@ -30,7 +30,7 @@ returns-in-Err-Memory-clause-ok g c = λ ample.
     let p : Printed = shown_at c.args.self.now.board c.args.done.now in
     let cut = c.print.ensures.memory (c.in-Err-Memory.is ∙ ap Err c.in-Err-Memory.field-0-is) in (
       cut_answer c.args.number (take cut.0 p.lines),
-      told_cut c.args.number cut.0 p ample c.args.self.now c.print.new.self cut.1 c.print.ensures.same,
+      told_cut c.args.number cut.0 p ample c.args.self.now c.note.new.self cut.1 (c.note.ensures ∙ c.print.ensures.same),
       refl,
       Appends-trans (g.W.Write.contents c.args.writer.now) (g.W.Write.contents c.print.new.writer) (g.W.Write.contents c.write_fault.new.writer) (joined (take cut.0 p.lines)) (fault_text c.args.number (words Memory)) cut.2 c.in_ok-write_fault-in-Err-Memory.ensures.ok,
     )
@@ -65,7 +65,7 @@ returns-then-not-is_empty-clause-ok g c = λ ample.
     let last = g.W.Write.contents c.write_refused.new.writer in
     let some : (length p.refused == 0) ≡ false = ap (λ (faults : List Fault). length faults == 0) (sym refused) ∙ sym c.is_empty.ensures ∙ c.if-not-is_empty.true in (
       done_answer c.args.number p ample,
-      told_refused c.args.number p ample c.args.self.now c.print.new.self some c.print.ensures.same,
+      told_refused c.args.number p ample c.args.self.now c.note-then-not-is_empty.new.self some (c.note-then-not-is_empty.ensures ∙ c.print.ensures.same),
       sym some,
       Appends-trans (g.W.Write.contents c.args.writer.now) mid last (joined p.lines) (refusal_lines c.args.number p.refused) c.in-Ok.ensures.done
           (subst (λ (faults : List Fault). Appends mid last (refusal_lines c.args.number faults)) refused c.in_ok-write_refused.ensures.ok),
