@@ -1,6 +1,16 @@
+pub mod Chosen
+pub mod Clean
+pub mod DumpUtf8
+pub mod Each
+pub mod Figures
 pub mod Hours
+pub mod Limiting
 pub mod Lines
 pub mod Names
 pub mod Narrow
+pub mod PlainText
 pub mod Records
+pub mod Saying
+pub mod Weighing
 pub mod Words
+pub mod WordsOver

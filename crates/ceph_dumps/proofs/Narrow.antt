@@ -1,10 +1,10 @@
 -- What was widened is narrowed again.
-use Rattle.std.proofs.Common.{◌≡◌, ◌∙◌, ◌<◌, ◌≤◌, ◌+◌, ◌*◌, ◌/◌, ◌%◌, ◌⊎◌, ℕ, Bool, true, false, cond, eqb, ltb, List, [], ◌∷◌, ◌++◌, All, Option, Some, None, drop, length, inl, inr, refl, ap, sym, arith, ⊎_elim}
+use Rattle.std.proofs.Common.{◌≡◌, ◌∙◌, ◌<◌, ◌≤◌, ◌+◌, ◌*◌, ◌/◌, ◌%◌, ◌⊎◌, ℕ, true, false, ltb, List, [], ◌∷◌, ◌++◌, All, Option, Some, None, drop, length, inl, inr, refl, ap, sym, arith, ⊎_elim}
 use Rattle.std.proofs.lemmas.List.{append-nil, drop_all}
-use Rattle.std.proofs.lemmas.Bool.{cases_Bool, eqb-true, ne_eqb}
+use Rattle.std.proofs.lemmas.Bool.{cases_Bool, ne_eqb}
 use Rattle.std.proofs.lemmas.Bool.Decides.{nat_tests}
 use Rattle.std.proofs.lemmas.List.Elements.{All-head, All-tail}
-use Rattle.ceph_dumps.specs.WideBytes.{is_lead, narrow_behind, wide, wide_byte}
+use Rattle.ceph_dumps.specs.WideBytes.{narrow_behind, wide, wide_byte}
 
 plain_byte : (b : ℕ) (text : List ℕ) → b < 128 → narrow_behind None (b ∷ text) ≡ b ∷ narrow_behind None text
 plain_byte b text small =

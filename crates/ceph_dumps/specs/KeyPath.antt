@@ -1,9 +1,8 @@
 -- Where a place of a JSON text is: the names of the members and the places in the lists that lead to it.
-use Rattle.std.specs.Prelude.{◌≡◌, ◌==◌, ◌&&◌, ◌||◌, ◌+◌, ◌-◌, ◌^◌, ◌++◌, ℕ, zero, suc, Bool, true, false, not}
+use Rattle.std.specs.Prelude.{◌≡◌, ◌≤◌, ◌==◌, ◌&&◌, ◌||◌, ◌+◌, ◌-◌, ◌^◌, ◌++◌, ℕ, zero, suc, Bool, true, false}
 use Rattle.std.specs.Prelude.{List, [], ◌∷◌, codes, decimal, drop, length, map, min, nat_le, nat_lt, slice_index}
 use Rattle.std.specs.Prelude.{slice_index_or, slice_set, take, if◌then◌else◌}
 use Rattle.std.specs.List.{flat_map}
-use Rattle.mds_types.specs.Sums.{count_below}
 use Rattle.ceph_dumps.specs.declared.bare_words.Place.{Place}
 use Rattle.ceph_dumps.specs.declared.bare_words.Place.TheVariants.{Bare, Escaped, Quoted}
 use Rattle.ceph_dumps.specs.declared.key_path.Frame.{Frame}
@@ -92,26 +91,25 @@ or_dot path = if length path == 0 then codes "." else path
 abbrev pub key_path : List ℕ → ℕ → List ℕ
 key_path text n = or_dot (flat_map (frame_text text) (meant_at text n))
 
--- where a line begins: after as many newlines as there are lines before it
-abbrev pub newlines : List ℕ → ℕ → ℕ
-newlines text n = count_below n (λ i. slice_index text i == 10)
+-- the line of byte n, from 1 on: one more than there are newlines before it
+abbrev pub line_at : List ℕ → ℕ → ℕ
+line_at text zero = 1
+line_at text (suc n) = if slice_index text n == 10 then line_at text n + 1 else line_at text n
 
-abbrev pub line_begin : List ℕ → ℕ → ℕ
-line_begin text line = count_below (length text) (λ i. nat_lt (newlines text i) (line - 1))
-
--- the byte at a column of a line, in the text that is read
-abbrev pub byte_of : List ℕ → ℕ → ℕ → ℕ
-byte_of text line wide = min (length text) (line_begin text line + (wide - 1))
-
--- the column of the file, where each character of the text was a byte
+-- its column in the file, where each character of the text was a byte
 abbrev pub is_tail : ℕ → Bool
 is_tail byte = nat_le 128 byte && nat_le byte 191
 
-abbrev pub column_of : List ℕ → ℕ → ℕ → ℕ
-column_of text start wide = count_below wide (λ i. not (is_tail (slice_index (drop start text) i)))
+abbrev pub column_at : List ℕ → ℕ → ℕ
+column_at text zero = 1
+column_at text (suc n) =
+    if slice_index text n == 10 then 1
+    else if is_tail (slice_index text n) then column_at text n else column_at text n + 1
 
--- line and column are those of a byte of the text, and the path is that byte's
+-- line and column are those of a byte of the text, or of its end, and the path is that byte's
 pub record IsPlaceOf (text : List ℕ) (line column : ℕ) (path : List ℕ) : Type 0 where
-  pub wide : ℕ
-  pub column_is : column ≡ column_of text (line_begin text line) wide
-  pub path_is : path ≡ key_path text (byte_of text line wide)
+  pub at : ℕ
+  pub inside : at ≤ length text
+  pub line_is : line ≡ line_at text at
+  pub column_is : column ≡ column_at text at
+  pub path_is : path ≡ key_path text at

@@ -1,5 +1,7 @@
 //! Writes blanks and a zero over bare `-inf`, `inf` and `nan`, which Ceph prints where JSON has no number.
-ghost use Rattle.std.specs.Prelude.{◌≡◌, ◌≤◌, length};
+ghost use Rattle.std.specs.Prelude.{◌≡◌, false};
+ghost use Rattle.ceph_dumps.specs.DumpText.{HasNoWord, bare_length, over_byte, word_left, word_length, written_over};
+ghost use Rattle.ceph_dumps.specs.declared.bare_words.Place.TheVariants.{Bare};
 
 use memchr::memmem::find;
 
@@ -31,46 +33,73 @@ impl Place {
     }
 }
 
-/// How many bytes of a bare word begin here.
+/// How many bytes a word has that begins here, which Ceph prints where JSON has no number.
 fn word_length(text: &[u8]) -> usize
-    ensures { result ≤ length text.now }
+    ensures { result ≡ word_length text.now }
 {
-    for word in [b"-inf".as_slice(), b"-nan", b"inf", b"nan"] {
-        if text.starts_with(word) {
-            return word.len();
-        }
+    if text.starts_with(b"-inf") || text.starts_with(b"-nan") {
+        4
+    } else if text.starts_with(b"inf") || text.starts_with(b"nan") {
+        3
+    } else {
+        0
     }
-    0
 }
 
-/// Writes blanks and a zero over the bytes.
-fn zero_over(word: &mut [u8])
-    ensures { length word.new ≡ length word.old }
+/// The same, where such a word begins outside of strings only.
+fn bare_length(place: Place, text: &[u8]) -> usize
+    ensures { result ≡ bare_length place text.now }
 {
-    word.fill(b' ');
-    if let Some(last) = word.last_mut() {
-        *last = b'0';
+    match place {
+        Place::Bare => word_length(text),
+        Place::Quoted | Place::Escaped => 0,
     }
+}
+
+/// How many bytes of a word still come, where so many come of one that began before.
+fn word_left(left: usize, place: Place, text: &[u8]) -> usize
+    ensures { result ≡ word_left left place text.now }
+{
+    if left == 0 {
+        bare_length(place, text)
+    } else {
+        left
+    }
+}
+
+/// What is written over a byte of a word, where so many come after it.
+fn over_byte(left: usize) -> u8
+    ensures { result ≡ over_byte left }
+{
+    if left == 0 { b'0' } else { b' ' }
 }
 
 /// Whether `inf` or `nan` occurs anywhere, in strings or not.
-pub(crate) fn may_have_words(text: &[u8]) -> bool {
-    [b"inf", b"nan"]
-        .iter()
-        .any(|word| find(text, word.as_slice()).is_some())
+pub(crate) fn may_have_words(text: &[u8]) -> bool
+    ensures { result ≡ false → HasNoWord text.now }
+{
+    match find(text, b"inf") {
+        Some(_) => true,
+        None => match find(text, b"nan") {
+            Some(_) => true,
+            None => false,
+        },
+    }
 }
 
 /// Writes over each bare word outside of strings. No byte is moved, so lines and columns stay.
 pub fn write_over_bare_words(text: &mut [u8])
-    ensures { length text.new ≡ length text.old }
+    ensures { text.new ≡ written_over 0 Bare text.old }
 {
-    let mut place = Place::Bare;
+    let (mut place, mut left) = (Place::Bare, 0);
     for at in 0..text.len() {
-        let byte = text[at];
-        if matches!((place, byte), (Place::Bare, b'-' | b'i' | b'n')) {
-            let word = word_length(&text[at..]);
-            zero_over(&mut text[at..at + word]);
+        let coming = word_left(left, place, &text[at..]);
+        if coming == 0 {
+            place = place.after(text[at]);
+            left = 0;
+        } else {
+            left = coming - 1;
+            text[at] = over_byte(left);
         }
-        place = place.after(byte);
     }
 }

@@ -19,8 +19,8 @@ pub enum DumpError {
         column: usize,
         /// The names of members and the places in lists that lead there, as `.mdsmap.in[0]`.
         path: String,
-        /// What was expected, as the reader says it.
-        reason: String,
+        /// What was expected.
+        reason: &'static str,
     },
     /// The file system is to have more ranks than can be planned for.
     #[error("more than 64 ranks")]

@@ -3,7 +3,7 @@
 ghost use Rattle.std.specs.Prelude.{◌≡◌, ◌<◌, ◌≤◌, ◌++◌, ◌^◌, IfOk, OnOk, codes, decimal, length};
 ghost use Rattle.std.specs.Prelude.{map, string_bytes};
 ghost use Rattle.std.specs.List.{flat_map};
-ghost use Rattle.ceph_dumps.specs.KeyPath.{after_bare, column_of, frame_text, key_path, line_begin, meant_at};
+ghost use Rattle.ceph_dumps.specs.KeyPath.{after_bare, column_at, frame_text, key_path, line_at, meant_at};
 ghost use Rattle.ceph_dumps.specs.KeyPath.{new_frame, next_of, open_at, shown_name_byte, with_last, word_after};
 ghost use Rattle.ceph_dumps.specs.KeyPath.{word_text};
 
@@ -224,34 +224,31 @@ pub fn key_path(alloc: Global, text: &[u8], end: usize) -> Result<String, AllocE
     Ok(path)
 }
 
-/// Where a line begins: after as many newlines as there are lines before it, which are counted from 1.
-pub fn line_begin(text: &[u8], line: usize) -> usize
-    ensures is { result ≡ line_begin text.now line }
-    ensures inside { result ≤ length text.now }
+/// The number of the line of the byte at `at`, from 1 on.
+pub fn line_at(text: &[u8], at: usize) -> usize
+    requires { at ≤ length text.now }
+    ensures { result ≡ line_at text.now at }
 {
-    let before = line.saturating_sub(1);
-    let (mut start, mut seen) = (0usize, 0usize);
-    for at in 0..text.len() {
-        if seen < before {
-            start += 1;
-        }
-        if text[at] == b'\n' {
-            seen += 1;
+    let mut line = 1usize;
+    for before in 0..at {
+        if text[before] == b'\n' {
+            line += 1;
         }
     }
-    start
+    line
 }
 
-/// How many characters there are in so many bytes after `start`.
-pub fn column_of(text: &[u8], start: usize, wide: usize) -> usize
-    requires { start ≤ length text.now }
-    ensures { result ≡ column_of text.now start wide }
+/// The column of the byte at `at` in its line, from 1 on: each character of the text was a byte of the dump.
+pub fn column_at(text: &[u8], at: usize) -> usize
+    requires { at ≤ length text.now }
+    ensures { result ≡ column_at text.now at }
 {
-    let rest = &text[start..];
-    let mut column = 0usize;
-    for at in 0..wide {
-        if !matches!(rest.get(at).copied(), Some(128..=191)) {
-            column += 1;
+    let mut column = 1usize;
+    for before in 0..at {
+        match text[before] {
+            b'\n' => column = 1,
+            128..=191 => {}
+            _ => column += 1,
         }
     }
     column

@@ -4,22 +4,24 @@
 pub mod balancer;
 pub mod bare_words;
 pub mod cluster;
+mod dump;
 pub mod dump_error;
 pub mod file_system;
 pub mod hour_record;
 pub mod inode;
 pub mod inodes;
-mod json;
+mod items;
 pub mod key_path;
 pub mod laws;
 pub mod listing;
 pub mod loads;
-mod members;
+mod member;
 pub mod own_list;
 pub mod path_list;
 pub mod paths;
 pub mod rank_sets;
 pub mod subtrees;
+mod unread;
 pub mod wide_bytes;
 
 pub use balancer::read_balancer;

@@ -1,16 +1,26 @@
 //! Heat of directory fragments: what a rank answers to `dump loads`.
-ghost use Rattle.std.specs.Prelude.{◌≡◌, ◌*◌, ◌≤◌, All, None, true, IfOk};
+ghost use Rattle.std.specs.Prelude.{◌≡◌, ◌≢◌, ◌*◌, ◌≤◌, All, None, Some, codes, map, option_map, true};
+ghost use Rattle.std.specs.Prelude.{IfErr, IfOk, IsSome};
+ghost use Rattle.std.specs.Float.{float_zero};
+ghost use Rattle.json.specs.Value.{items_view, value_view};
+ghost use Rattle.ceph_dumps.specs.Loads.{counter_in, counter_list, counters_in, fragment_data, heat_of, if_clean};
+ghost use Rattle.ceph_dumps.specs.Loads.{limited, said_loads, named_inode, weighed_sum};
+ghost use Rattle.ceph_dumps.specs.Members.{each, optional};
 ghost use Rattle.ceph_dumps.specs.Paths.{is_clean_path};
+ghost use Rattle.ceph_dumps.specs.declared.dump_error.DumpError.TheVariants.{Memory as NoMemory};
+ghost use Rattle.ceph_dumps.specs.declared.unread.Unfit.TheVariants.{Memory};
 ghost use Rattle.mds_types.specs.declared.limits.TheConstants.{HEAT_LIMIT};
 
+use crate::dump::{Dump, read_dump};
 use crate::dump_error::DumpError;
 use crate::inode::inode_of;
-use crate::json::read_json;
-use crate::members::{Member, Members, NESTED, Named, Objects, TEXT, fill, present, read_object};
+use crate::items::{Item, read_list_in};
+use crate::member::{items_of, optional, required, text_in};
 use crate::narrowed;
 use crate::paths::is_clean_path;
+use crate::unread::{Unfit, Unread};
+use json::{MAX_DEPTH, Reader, Value};
 use mds_types::limits::HEAT_LIMIT;
-use serde::{DeserializeOwned, Deserializer, Format, Kind, Name};
 use std::alloc::Global;
 use std::num::saturating_f64_to_u64;
 
@@ -19,93 +29,6 @@ pub const WEIGHTS: &[u8] = &[1, 2, 1, 2, 4];
 
 /// How many writes, of a weight of 2 each, are in each of them.
 pub const WRITES: &[u8] = &[0, 1, 0, 0, 2];
-
-/// The counters of a fragment: reads, writes, readdirs, fetches and stores.
-type Counters = Objects<Member<f64>>;
-
-impl Named for f64 {
-    const NAME: &'static str = "value";
-
-    const EXPECTED: &'static str = "expected a number";
-}
-
-impl Named for Counters {
-    const NAME: &'static str = "Decay Counters";
-
-    const EXPECTED: &'static str = NESTED;
-}
-
-impl Named for Objects<FragmentHeat> {
-    const NAME: &'static str = "dirfrags";
-
-    const EXPECTED: &'static str = NESTED;
-}
-
-/// The members of a fragment.
-#[derive(Drop)]
-struct Fragment {
-    path: Option<String>,
-    name: Option<String>,
-    counters: Option<Member<Counters>>,
-}
-
-impl Members for Fragment {
-    type Whole = FragmentHeat;
-
-    fn take<F: Format>(
-        &mut self,
-        at: usize,
-        alloc: Global,
-        from: &mut Deserializer<'_, '_, F>,
-    ) -> Result<(), F::Error> {
-        match at {
-            0 => fill(&mut self.path, "path", TEXT, alloc, from),
-            1 => fill(&mut self.counters, "pop_me", NESTED, alloc, from),
-            2 if from.peek()? == Kind::Str => fill(&mut self.name, "dirfrag", TEXT, alloc, from),
-            _ => from.skip(),
-        }
-    }
-
-    fn whole<F: Format>(
-        &mut self,
-        alloc: Global,
-        from: &Deserializer<'_, '_, F>,
-    ) -> Result<FragmentHeat, F::Error> {
-        let path = present(self.path.as_deref(), "path", from)?;
-        let counters = present(self.counters.as_ref(), "pop_me", from)?;
-        let heat = heat_of(counters.0.0.as_slice(), WEIGHTS);
-        let writes = heat_of(counters.0.0.as_slice(), WRITES);
-        let inode = self.name.as_deref().and_then(inode_of);
-        match narrowed(alloc, path.as_bytes()) {
-            Ok(path) => Ok(FragmentHeat {
-                path,
-                inode,
-                heat,
-                writes,
-            }),
-            Err(_) => Err(from.no_memory()),
-        }
-    }
-}
-
-impl DeserializeOwned for FragmentHeat {
-    fn deserialize_owned<F: Format>(
-        alloc: Global,
-        from: &mut Deserializer<'_, '_, F>,
-    ) -> Result<FragmentHeat, F::Error> {
-        let names = [
-            Name::exact("path"),
-            Name::exact("pop_me"),
-            Name::exact("dirfrag"),
-        ];
-        let none = Fragment {
-            path: None,
-            name: None,
-            counters: None,
-        };
-        read_object(none, &names, alloc, from)
-    }
-}
 
 /// A fragment of a directory, and its own heat at the rank that was asked.
 #[derive(Drop)]
@@ -120,29 +43,160 @@ pub struct FragmentHeat {
     pub writes: u64,
 }
 
-/// The heat of five counters by these weights, to the nearest thousandth.
-fn heat_of(counters: &[Member<f64>], weights: &[u8]) -> u64 {
-    let mut heat = 0.0;
-    for (counter, weight) in counters.iter().zip(weights) {
-        heat += counter.0 * f64::from(*weight);
+/// The sum of counters times their weights.
+fn weighed_sum(counters: &[f64], weights: &[u8]) -> f64
+    ensures { result ≡ weighed_sum float_zero counters.now weights.now }
+{
+    let mut sum = 0.0;
+    for at in 0..counters.len().min(weights.len()) {
+        sum += counters[at] * f64::from(weights[at]);
     }
-    saturating_f64_to_u64(heat * 1000.0 + 0.5)
+    sum
+}
+
+/// The heat of counters by these weights, to the nearest thousandth.
+fn heat_of(counters: &[f64], weights: &[u8]) -> u64
+    ensures { result ≡ heat_of counters.now weights.now }
+{
+    saturating_f64_to_u64(weighed_sum(counters, weights) * 1000.0 + 0.5)
+}
+
+/// What is expected of the path of a fragment.
+const PATH: &str = "expected an object with a string in its one `path`";
+
+/// What is expected of the counters of a fragment.
+const COUNTERS: &str =
+    "expected a list of `Decay Counters` in the one `pop_me`, with a number in each `value`";
+
+/// What is expected of the name of a fragment.
+const NAME: &str = "expected one `dirfrag` at most";
+
+/// The items of the list of counters.
+fn counter_items<'v, 'a>(value: &'v Value<'a>) -> Option<&'v [Value<'a>]>
+    ensures { option_map (λ items. items_view items.now) result ≡ counter_list (value_view value.now) }
+{
+    items_of(required(required(value, "pop_me")?, "Decay Counters")?)
+}
+
+/// The value of a counter.
+fn counter_of(value: &Value<'_>) -> Option<f64>
+    ensures { result ≡ counter_in (value_view value.now) }
+{
+    required(value, "value")?.as_f64()
+}
+
+/// The counters of a fragment: reads, writes, readdirs, fetches and stores.
+fn counters_of(alloc: Global, value: &Value<'_>) -> Result<Vec<f64>, Unfit>
+    ensures is { IfOk result (λ found. counters_in (value_view value.now) ≡ Some found.items) }
+    ensures none { IfErr result (λ error. error ≢ Memory → counters_in (value_view value.now) ≡ None) }
+{
+    match counter_items(value) {
+        Some(items) => doubles_of(alloc, items),
+        None => Err(Unfit::Misfit(COUNTERS)),
+    }
+}
+
+/// The value of each counter of a list.
+fn doubles_of(alloc: Global, items: &[Value<'_>]) -> Result<Vec<f64>, Unfit>
+    ensures is { IfOk result (λ found. each counter_in (items_view items.now) ≡ Some found.items) }
+    ensures none { IfErr result (λ error. error ≢ Memory → each counter_in (items_view items.now) ≡ None) }
+{
+    let mut counters = Vec::with_capacity(alloc, items.len())?;
+    for item in items {
+        match counter_of(item) {
+            Some(counter) => counters.push(counter)?,
+            None => return Err(Unfit::Misfit(COUNTERS)),
+        }
+    }
+    Ok(counters)
+}
+
+/// The inode number in a name, where it is a string.
+fn text_inode(name: &Value<'_>) -> Option<u64>
+    ensures { result ≡ named_inode (Some (value_view name.now)) }
+{
+    inode_of(name.as_str()?)
+}
+
+/// The inode number of the directory of a fragment, where its name says it.
+fn inode_in(value: &Value<'_>) -> Option<Option<u64>>
+    ensures { result ≡ option_map named_inode (optional (codes "dirfrag") (value_view value.now)) }
+{
+    match optional(value, "dirfrag")? {
+        Some(name) => Some(text_inode(name)),
+        None => Some(None),
+    }
+}
+
+impl Item for FragmentHeat {
+    ghost use Rattle.ceph_dumps.specs.Loads.{FragmentData, fragment_data, fragment_in};
+
+    ghost Said = { FragmentData };
+
+    ghost shown = { fragment_data };
+
+    ghost said = { fragment_in };
+
+    fn of(alloc: Global, value: &Value<'_>) -> Result<FragmentHeat, Unfit> {
+        let Some(path) = text_in(value, "path") else {
+            return Err(Unfit::Misfit(PATH));
+        };
+        let Some(inode) = inode_in(value) else {
+            return Err(Unfit::Misfit(NAME));
+        };
+        let counters = counters_of(alloc, value)?;
+        Ok(FragmentHeat {
+            path: narrowed(alloc, path.as_bytes())?,
+            inode,
+            heat: heat_of(&counters, WEIGHTS),
+            writes: heat_of(&counters, WRITES),
+        })
+    }
+}
+
+/// The fragments of a dump.
+#[derive(Drop)]
+struct Fragments(Vec<FragmentHeat>);
+
+impl Dump for Fragments {
+    ghost use Rattle.std.specs.Prelude.{List, codes, map};
+    ghost use Rattle.ceph_dumps.specs.Loads.{FragmentData, fragment_data, fragment_in};
+    ghost use Rattle.ceph_dumps.specs.Members.{list_in};
+
+    ghost Said = { List FragmentData };
+
+    ghost shown = { λ fragments. map fragment_data fragments.0.items };
+
+    ghost said = { list_in fragment_in (codes "dirfrags") };
+
+    fn read(alloc: Global, reader: &mut Reader<'_>) -> Result<Fragments, Unread> {
+        Ok(Fragments(read_list_in(alloc, reader, "dirfrags", MAX_DEPTH)?))
+    }
+}
+
+/// Puts heat that is past the limit at the limit, and lets no more of it come from writes than there is.
+fn limit_one(fragment: &mut FragmentHeat)
+    ensures { fragment_data fragment.new ≡ limited (fragment_data fragment.old) }
+{
+    fragment.heat = fragment.heat.min(HEAT_LIMIT);
+    fragment.writes = fragment.writes.min(fragment.heat / 2);
 }
 
 /// Puts each heat that is past the limit at the limit, and lets no more of it come from writes than there is.
 fn limit(fragments: &mut [FragmentHeat])
     ensures heat { All (λ fragment. fragment.heat ≤ HEAT_LIMIT) fragments.new }
     ensures writes { All (λ fragment. 2 * fragment.writes ≤ fragment.heat) fragments.new }
+    ensures is { map fragment_data fragments.new ≡ map limited (map fragment_data fragments.old) }
 {
     for fragment in fragments {
-        fragment.heat = fragment.heat.min(HEAT_LIMIT);
-        fragment.writes = fragment.writes.min(fragment.heat / 2);
+        limit_one(fragment);
     }
 }
 
 /// The number, from 1 on, of the first fragment whose path has an empty, `.` or `..` component.
 fn odd_entry(fragments: &[FragmentHeat]) -> Option<usize>
-    ensures { result ≡ None → All (λ fragment. is_clean_path fragment.path.items ≡ true) fragments.now }
+    ensures clean { result ≡ None → All (λ fragment. is_clean_path fragment.path.items ≡ true) fragments.now }
+    ensures odd { IsSome result → if_clean (map fragment_data fragments.now) ≡ None }
 {
     for (at, fragment) in fragments.iter().enumerate() {
         if !is_clean_path(fragment.path.as_slice()) {
@@ -154,11 +208,13 @@ fn odd_entry(fragments: &[FragmentHeat]) -> Option<usize>
 
 /// The heat of each directory fragment that a rank names.
 pub fn read_loads(alloc: Global, bytes: &[u8]) -> Result<Vec<FragmentHeat>, DumpError>
+    ensures is { IfOk result (λ found. said_loads bytes.now ≡ Some (map fragment_data found.items)) }
+    ensures none { IfErr result (λ error. error ≢ NoMemory → said_loads bytes.now ≡ None) }
     ensures clean { IfOk result (λ found. All (λ fragment. is_clean_path fragment.path.items ≡ true) found.items) }
     ensures heat { IfOk result (λ found. All (λ fragment. fragment.heat ≤ HEAT_LIMIT) found.items) }
     ensures writes { IfOk result (λ found. All (λ fragment. 2 * fragment.writes ≤ fragment.heat) found.items) }
 {
-    let Member(Objects(mut found)): Member<Objects<FragmentHeat>> = read_json(alloc, bytes)?;
+    let Fragments(mut found) = read_dump(alloc, bytes)?;
     limit(&mut found);
     match odd_entry(&found) {
         Some(number) => Err(DumpError::Entry(number)),

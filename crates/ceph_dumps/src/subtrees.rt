@@ -1,14 +1,20 @@
 //! Authority: what a rank answers to `get subtrees`.
 
-ghost use Rattle.std.specs.Prelude.{◌≡◌, All, None, true, IfOk};
+ghost use Rattle.std.specs.Prelude.{◌≡◌, ◌≢◌, All, None, Some, codes, map, option_map, true, IfErr, IfOk, IsSome};
+ghost use Rattle.json.specs.Value.{value_view};
 ghost use Rattle.ceph_dumps.specs.Paths.{is_clean_path};
+ghost use Rattle.ceph_dumps.specs.Subtrees.{authority_in, dir_in, if_clean, is_spread_in, optional_text};
+ghost use Rattle.ceph_dumps.specs.Subtrees.{optional_truth, pin_from, pin_in, root_data, said_roots};
+ghost use Rattle.ceph_dumps.specs.declared.dump_error.DumpError.TheVariants.{Memory as NoMemory};
 
+use crate::dump::{Dump, read_dump};
 use crate::dump_error::DumpError;
-use crate::json::read_json;
-use crate::members::{Members, NESTED, Objects, TEXT, TRUTH, WHOLE, fill, present, read_object};
+use crate::items::{Item, read_list};
+use crate::member::{copied, optional, required, text_in, truth_in, whole_of};
 use crate::narrowed;
 use crate::paths::is_clean_path;
-use serde::{DeserializeOwned, Deserializer, Format, Name};
+use crate::unread::{Unfit, Unread};
+use json::{MAX_DEPTH, Reader, Value};
 use std::alloc::Global;
 
 /// The root of a subtree, as one rank knows it.
@@ -28,192 +34,138 @@ pub struct SubtreeRoot {
     pub is_spread: bool,
 }
 
-/// The directory of a root.
-#[derive(Drop)]
-struct RootDir {
-    path: String,
-    fragment: Option<String>,
-}
+/// What is expected of a root.
+const ROOT: &str = "expected an object with one `is_auth`, `auth_first` and `dir`";
 
-/// The members of a root's directory.
-#[derive(Drop)]
-struct DirMembers {
-    path: Option<String>,
-    fragment: Option<String>,
-}
+/// What is expected of the directory of a root.
+const DIR: &str = "expected a string in the one `path` of `dir`, and in its one `dirfrag` at most";
 
-impl Members for DirMembers {
-    type Whole = RootDir;
+/// What is expected of what pins a root.
+const PINS: &str =
+    "expected a whole number as `export_pin`, true or false as each ephemeral pin, and each once at most";
 
-    fn take<F: Format>(
-        &mut self,
-        at: usize,
-        alloc: Global,
-        from: &mut Deserializer<'_, '_, F>,
-    ) -> Result<(), F::Error> {
-        match at {
-            0 => fill(&mut self.path, "path", TEXT, alloc, from),
-            1 => fill(&mut self.fragment, "dirfrag", TEXT, alloc, from),
-            _ => from.skip(),
-        }
-    }
-
-    fn whole<F: Format>(
-        &mut self,
-        _alloc: Global,
-        from: &Deserializer<'_, '_, F>,
-    ) -> Result<RootDir, F::Error> {
-        let path = present(self.path.take(), "path", from)?;
-        let fragment = self.fragment.take();
-        Ok(RootDir { path, fragment })
+/// The string in the member of this name, where there is one.
+fn optional_text<'a>(value: &Value<'a>, name: &str) -> Option<Option<&'a str>>
+    ensures { option_map (option_map (λ text. text.now)) result ≡ optional_text name.now (value_view value.now) }
+{
+    match optional(value, name)? {
+        Some(found) => Some(Some(found.as_str()?)),
+        None => Some(None),
     }
 }
 
-impl DeserializeOwned for RootDir {
-    fn deserialize_owned<F: Format>(
-        alloc: Global,
-        from: &mut Deserializer<'_, '_, F>,
-    ) -> Result<RootDir, F::Error> {
-        let names = [Name::exact("path"), Name::exact("dirfrag")];
-        let none = DirMembers {
-            path: None,
-            fragment: None,
+/// Whether the member of this name is true; it is not where there is none.
+fn optional_truth(value: &Value<'_>, name: &str) -> Option<bool>
+    ensures { result ≡ optional_truth name.now (value_view value.now) }
+{
+    match optional(value, name)? {
+        Some(found) => found.as_bool(),
+        None => Some(false),
+    }
+}
+
+/// The export pin, where there is one: a number below 0 is none.
+fn pin_in(value: &Value<'_>) -> Option<Option<i64>>
+    ensures { result ≡ pin_in (value_view value.now) }
+{
+    match optional(value, "export_pin")? {
+        Some(found) if !found.is_null() => Some(pin_of(whole_of(found)?)),
+        _ => Some(None),
+    }
+}
+
+/// A pin: a number below 0 is none.
+fn pin_of(rank: i64) -> Option<i64>
+    ensures { result ≡ pin_from rank }
+{
+    if rank < 0 { None } else { Some(rank) }
+}
+
+/// Whether Ceph itself spreads what is below over the ranks.
+fn is_spread(value: &Value<'_>) -> Option<bool>
+    ensures { result ≡ is_spread_in (value_view value.now) }
+{
+    let is_distributed = optional_truth(value, "distributed_ephemeral_pin")?;
+    let is_random = optional_truth(value, "random_ephemeral_pin")?;
+    Some(is_distributed || is_random)
+}
+
+/// Path and fragment of the directory of a root.
+fn dir_of<'a>(value: &Value<'a>) -> Option<(&'a str, Option<&'a str>)>
+    ensures { option_map (λ dir. (dir.0.now, option_map (λ text. text.now) dir.1)) result
+        ≡ dir_in (value_view value.now) }
+{
+    let dir = required(value, "dir")?;
+    Some((text_in(dir, "path")?, optional_text(dir, "dirfrag")?))
+}
+
+/// The rank that has authority.
+fn authority_in(value: &Value<'_>) -> Option<i64>
+    ensures { result ≡ authority_in (value_view value.now) }
+{
+    whole_of(required(value, "auth_first")?)
+}
+
+impl Item for SubtreeRoot {
+    ghost use Rattle.ceph_dumps.specs.Subtrees.{RootData, root_data, root_in};
+
+    ghost Said = { RootData };
+
+    ghost shown = { root_data };
+
+    ghost said = { root_in };
+
+    fn of(alloc: Global, value: &Value<'_>) -> Result<SubtreeRoot, Unfit> {
+        let Some(is_here) = truth_in(value, "is_auth") else {
+            return Err(Unfit::Misfit(ROOT));
         };
-        read_object(none, &names, alloc, from)
+        let Some(authority) = authority_in(value) else {
+            return Err(Unfit::Misfit(ROOT));
+        };
+        let Some((path, fragment)) = dir_of(value) else {
+            return Err(Unfit::Misfit(DIR));
+        };
+        let Some(pin) = pin_in(value) else {
+            return Err(Unfit::Misfit(PINS));
+        };
+        let Some(is_spread) = is_spread(value) else {
+            return Err(Unfit::Misfit(PINS));
+        };
+        Ok(SubtreeRoot {
+            path: narrowed(alloc, path.as_bytes())?,
+            is_here,
+            authority,
+            fragment: copied(alloc, fragment)?,
+            pin,
+            is_spread,
+        })
     }
 }
 
-/// The members of a root that say what pins it.
-#[derive(Clone, Copy)]
-struct Pins {
-    export: Option<Option<i64>>,
-    is_distributed: Option<bool>,
-    is_random: Option<bool>,
-}
-
-impl Pins {
-    /// Reads the member at this place among those of a root, or passes over one without a place.
-    fn take<F: Format>(
-        &mut self,
-        at: usize,
-        alloc: Global,
-        from: &mut Deserializer<'_, '_, F>,
-    ) -> Result<(), F::Error> {
-        match at {
-            1 => fill(&mut self.export, "export_pin", WHOLE, alloc, from),
-            2 => fill(
-                &mut self.is_distributed,
-                "distributed_ephemeral_pin",
-                TRUTH,
-                alloc,
-                from,
-            ),
-            3 => fill(
-                &mut self.is_random,
-                "random_ephemeral_pin",
-                TRUTH,
-                alloc,
-                from,
-            ),
-            _ => from.skip(),
-        }
-    }
-
-    /// The export pin, where there is one.
-    fn pin(self) -> Option<i64> {
-        match self.export {
-            Some(Some(rank)) if rank >= 0 => Some(rank),
-            _ => None,
-        }
-    }
-}
-
-/// The members of a root.
+/// The roots of a dump.
 #[derive(Drop)]
-struct Root {
-    is_here: Option<bool>,
-    authority: Option<i64>,
-    pins: Pins,
-    dir: Option<RootDir>,
-}
+struct Roots(Vec<SubtreeRoot>);
 
-impl Members for Root {
-    type Whole = SubtreeRoot;
+impl Dump for Roots {
+    ghost use Rattle.std.specs.Prelude.{List, map};
+    ghost use Rattle.ceph_dumps.specs.Members.{list_of};
+    ghost use Rattle.ceph_dumps.specs.Subtrees.{RootData, root_data, root_in};
 
-    fn take<F: Format>(
-        &mut self,
-        at: usize,
-        alloc: Global,
-        from: &mut Deserializer<'_, '_, F>,
-    ) -> Result<(), F::Error> {
-        match at {
-            0 => fill(&mut self.is_here, "is_auth", TRUTH, alloc, from),
-            4 => fill(&mut self.dir, "dir", NESTED, alloc, from),
-            5 => fill(&mut self.authority, "auth_first", WHOLE, alloc, from),
-            _ => self.pins.take(at, alloc, from),
-        }
-    }
+    ghost Said = { List RootData };
 
-    fn whole<F: Format>(
-        &mut self,
-        alloc: Global,
-        from: &Deserializer<'_, '_, F>,
-    ) -> Result<SubtreeRoot, F::Error> {
-        let is_here = present(self.is_here, "is_auth", from)?;
-        let authority = present(self.authority, "auth_first", from)?;
-        let RootDir { path, fragment } = present(self.dir.take(), "dir", from)?;
-        let pins = self.pins;
-        let is_spread = pins.is_distributed == Some(true) || pins.is_random == Some(true);
-        match narrowed(alloc, path.as_bytes()) {
-            Ok(path) => Ok(SubtreeRoot {
-                path,
-                is_here,
-                authority,
-                fragment,
-                pin: pins.pin(),
-                is_spread,
-            }),
-            Err(_) => Err(from.no_memory()),
-        }
-    }
-}
+    ghost shown = { λ roots. map root_data roots.0.items };
 
-impl Root {
-    /// No member yet.
-    fn empty() -> Root {
-        Root {
-            is_here: None,
-            authority: None,
-            pins: Pins {
-                export: None,
-                is_distributed: None,
-                is_random: None,
-            },
-            dir: None,
-        }
-    }
-}
+    ghost said = { list_of root_in };
 
-impl DeserializeOwned for SubtreeRoot {
-    fn deserialize_owned<F: Format>(
-        alloc: Global,
-        from: &mut Deserializer<'_, '_, F>,
-    ) -> Result<SubtreeRoot, F::Error> {
-        let names = [
-            Name::exact("is_auth"),
-            Name::exact("export_pin"),
-            Name::exact("distributed_ephemeral_pin"),
-            Name::exact("random_ephemeral_pin"),
-            Name::exact("dir"),
-            Name::exact("auth_first"),
-        ];
-        read_object(Root::empty(), &names, alloc, from)
+    fn read(alloc: Global, reader: &mut Reader<'_>) -> Result<Roots, Unread> {
+        Ok(Roots(read_list(alloc, reader, MAX_DEPTH)?))
     }
 }
 
 /// The number, from 1 on, of the first root whose path has an empty, `.` or `..` component.
 fn odd_entry(roots: &[SubtreeRoot]) -> Option<usize>
-    ensures { result ≡ None → All (λ root. is_clean_path root.path.items ≡ true) roots.now }
+    ensures clean { result ≡ None → All (λ root. is_clean_path root.path.items ≡ true) roots.now }
+    ensures odd { IsSome result → if_clean (map root_data roots.now) ≡ None }
 {
     for (at, root) in roots.iter().enumerate() {
         if !is_clean_path(root.path.as_slice()) {
@@ -225,9 +177,11 @@ fn odd_entry(roots: &[SubtreeRoot]) -> Option<usize>
 
 /// The roots of the subtrees that a rank knows.
 pub fn read_subtrees(alloc: Global, bytes: &[u8]) -> Result<Vec<SubtreeRoot>, DumpError>
-    ensures { IfOk result (λ roots. All (λ root. is_clean_path root.path.items ≡ true) roots.items) }
+    ensures is { IfOk result (λ roots. said_roots bytes.now ≡ Some (map root_data roots.items)) }
+    ensures none { IfErr result (λ error. error ≢ NoMemory → said_roots bytes.now ≡ None) }
+    ensures clean { IfOk result (λ roots. All (λ root. is_clean_path root.path.items ≡ true) roots.items) }
 {
-    let Objects(roots): Objects<SubtreeRoot> = read_json(alloc, bytes)?;
+    let Roots(roots) = read_dump(alloc, bytes)?;
     match odd_entry(&roots) {
         Some(number) => Err(DumpError::Entry(number)),
         None => Ok(roots),

@@ -1,5 +1,5 @@
 //! Bytes from 0x80 as characters of their own, so that any bytes are UTF-8, and back.
-ghost use Rattle.std.specs.Prelude.{◌≡◌, ◌<◌, ◌≤◌, ◌+◌, ◌*◌, ◌%◌, ◌++◌, ℕ, List, All, IfOk, OnOk};
+ghost use Rattle.std.specs.Prelude.{◌≡◌, ◌<◌, ◌≤◌, ◌+◌, ◌*◌, ◌%◌, ◌++◌, ℕ, List, All, None, IfOk, OnOk};
 ghost use Rattle.ceph_dumps.specs.WideBytes.{is_lead, narrow_behind, wide, wide_byte};
 
 use std::alloc::{AllocError, Global};
@@ -74,6 +74,7 @@ fn is_first_of_two(byte: u8) -> bool
 
 /// The bytes that were widened to this text.
 pub fn narrowed(alloc: Global, text: &[u8]) -> Result<Vec<u8>, AllocError>
+    ensures is { IfOk result (λ found. found.items ≡ narrow_behind None text.now) }
     ensures back { IfOk result (λ found. (bytes : List ℕ) → All (λ byte. byte < 256) bytes → text.now ≡ wide bytes
         → found.items ≡ bytes) }
 {

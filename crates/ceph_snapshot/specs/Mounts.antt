@@ -1,11 +1,11 @@
 -- The paths that a mount has for inode numbers, in place of those that the dumps name.
-use Rattle.std.specs.Prelude.{◌==◌, ℕ, ℤ, Bool, false, List, [], ◌∷◌, Option, Some, None, filter, map, string_bytes}
-use Rattle.std.specs.Option.{option_map, unwrap_or}
+use Rattle.std.specs.Prelude.{◌==◌, ℕ, Bool, false, List, [], ◌∷◌, Option, Some, None, filter, map}
+use Rattle.std.specs.Option.{unwrap_or}
 use Rattle.ceph_dumps.specs.Inode.{inode_of}
+use Rattle.ceph_dumps.specs.Subtrees.{RootData}
 use Rattle.ceph_dumps.specs.declared.listing.ListedDir.{ListedDir}
 use Rattle.ceph_dumps.specs.declared.listing.ListedValue.{ListedValue}
 use Rattle.ceph_dumps.specs.declared.listing.ListedValue.TheVariants.{Entries, Inode, Pin, Policy}
-use Rattle.ceph_dumps.specs.declared.subtrees.SubtreeRoot.{SubtreeRoot}
 use Rattle.ceph_snapshot.specs.Sightings.{PathHeat}
 
 -- whether a value is this inode number
@@ -32,25 +32,6 @@ mounted_path listing (Some number) path = unwrap_or (only_path (paths_of listing
 -- so of the heat of a fragment
 abbrev pub mounted_heat : List ListedDir → PathHeat → PathHeat
 mounted_heat listing h = record h { path = mounted_path listing h.inode h.path }
-
--- and of a root, all that a dump says of it
-pub record RootData : Type 0 where
-  pub path : List ℕ
-  pub is_here : Bool
-  pub authority : ℤ
-  pub fragment : Option (List ℕ)
-  pub pin : Option ℤ
-  pub is_spread : Bool
-
-abbrev pub root_data : SubtreeRoot → RootData
-root_data root = record {
-  path = root.path.items;
-  is_here = root.is_here;
-  authority = root.authority;
-  fragment = option_map string_bytes root.fragment;
-  pin = root.pin;
-  is_spread = root.is_spread;
-}
 
 -- the inode number in the name of its fragment
 abbrev pub fragment_number : Option (List ℕ) → Option ℕ

@@ -6,7 +6,8 @@
 ghost use Rattle.std.specs.Prelude.{◌≡◌, ℕ, IfOk, OnOk, None, Some, is_some, nat_eq, slice_get, if◌then◌else◌};
 ghost use Rattle.std.specs.HashMap.{get};
 ghost use Rattle.std.specs.Option.{option_map};
-ghost use Rattle.ceph_snapshot.specs.Mounts.{is_number, mounted_heat, mounted_path, mounted_root, root_data};
+ghost use Rattle.ceph_snapshot.specs.Mounts.{is_number, mounted_heat, mounted_path, mounted_root};
+ghost use Rattle.ceph_dumps.specs.Subtrees.{root_data};
 ghost use Rattle.ceph_snapshot.specs.Mounts.{only_path, paths_of};
 ghost use Rattle.ceph_snapshot.specs.Sightings.{of_fragment};
 

@@ -149,7 +149,9 @@ fn refusal_of<T: Drop>(rt: &impl Abort, alloc: Global, answer: Result<T, DumpErr
 #[test]
 fn tells_where_a_dump_is_broken(rt: HostRuntime) {
     let told = refusal_of(&rt, rt.alloc(), read_loads(rt.alloc(), WRONG_COUNTERS));
-    let wanted = "line 2, column 22, at .dirfrags[0].pop_me: expected an object";
+    let wanted =
+        "line 2, column 1, at .dirfrags[0]: expected a list of `Decay Counters` in the one `pop_me`, \
+with a number in each `value`";
     same(&rt, &told.as_str(), &wanted);
 }
 
@@ -218,19 +220,19 @@ const REFUSED_RANKS: &[(&[u8], &str)] = &[
     ),
     (
         b"{\"mdsmap\":{\"max_mds\":1,\"in\":[0],\"in\":[1]}}",
-        "line 1, column 33, at .mdsmap: duplicate field `in`",
+        "line 1, column 1, at .: expected a list of ranks in the one `in` of `mdsmap`",
     ),
     (
         b"{\"mdsmap\":{\"max_mds\":1,\"in\":[0,true],\"info\":{}}}",
-        "line 1, column 32, at .mdsmap.in[1]: expected a list of ranks",
+        "line 1, column 1, at .: expected a list of ranks in the one `in` of `mdsmap`",
     ),
     (
         b"{\"mdsmap\":[3,[0],{}]}",
-        "line 1, column 11, at .mdsmap: expected an object",
+        "line 1, column 1, at .: expected 0 to 4294967295 in the one `max_mds` of `mdsmap`",
     ),
     (
         b"{\"id\":[{},{\"a\":1}],\"mdsmap\":{\"max_mds\":1,\"info\":{}}}",
-        "line 1, column 51, at .mdsmap: missing field `in`",
+        "line 1, column 1, at .: expected a list of ranks in the one `in` of `mdsmap`",
     ),
 ];
 

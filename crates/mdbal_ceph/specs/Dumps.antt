@@ -1,19 +1,23 @@
 -- The dumps of a folder: which file says what of which rank, and what they say in all.
-use Rattle.std.specs.Prelude.{◌≡◌, ◌<◌, ◌≤◌, ◌⊎◌, ◌+◌, ◌++◌, ◌∷◌, ℕ, All, List, [], Option, Some, None, codes}
-use Rattle.std.specs.Prelude.{decimal, filter, length, map, slice_get, slice_index_or, true, if◌then◌else◌}
+use Rattle.std.specs.Prelude.{◌≡◌, ◌≢◌, ◌<◌, ◌≤◌, ◌⊎◌, ◌+◌, ◌++◌, ◌∷◌, ℕ, All, List, [], Option, Some, None, codes}
+use Rattle.std.specs.Prelude.{decimal, filter, length, map, slice_get, slice_index_or, if◌then◌else◌}
 use Rattle.std.specs.List.{flat_map, range_with_len}
 use Rattle.std.specs.Option.{option_map}
 use Rattle.mds_types.specs.RankSet.{has_rank}
-use Rattle.mds_types.specs.declared.limits.TheConstants.{HEAT_LIMIT, RANK_LIMIT}
+use Rattle.mds_types.specs.declared.limits.TheConstants.{RANK_LIMIT}
+use Rattle.ceph_dumps.specs.Cluster.{IsBadMap, IsClusterOf, MapData, said_map}
 use Rattle.ceph_dumps.specs.Inodes.{AreInodesBefore}
 use Rattle.ceph_dumps.specs.Listing.{AreValuesListed}
-use Rattle.ceph_dumps.specs.Paths.{is_clean_path}
+use Rattle.ceph_dumps.specs.Loads.{fragment_data, said_loads}
+use Rattle.ceph_dumps.specs.Subtrees.{root_data, said_roots}
 use Rattle.ceph_dumps.specs.declared.cluster.FileSystemRanks.{FileSystemRanks}
+use Rattle.ceph_dumps.specs.declared.dump_error.DumpError.{DumpError}
+use Rattle.ceph_dumps.specs.declared.dump_error.DumpError.TheVariants.{Memory}
 use Rattle.ceph_dumps.specs.declared.listing.ListedDir.{ListedDir}
 use Rattle.ceph_dumps.specs.declared.loads.FragmentHeat.{FragmentHeat}
 use Rattle.ceph_dumps.specs.declared.subtrees.SubtreeRoot.{SubtreeRoot}
 use Rattle.ceph_snapshot.specs.Facts.{Fact, roots_in, values_in}
-use Rattle.ceph_snapshot.specs.Mounts.{mounted_heat, mounted_root, root_data}
+use Rattle.ceph_snapshot.specs.Mounts.{mounted_heat, mounted_root}
 use Rattle.ceph_snapshot.specs.Sightings.{PathHeat, of_fragment, seen_in}
 use Rattle.mdbal_ceph.specs.declared.source.TheConstants.{SAMPLE_LIMIT}
 use Rattle.mdbal_ceph.specs.Folder.{FileContent, IsInFile, IsInFileIfAny, Missing}
@@ -155,12 +159,15 @@ listed_facts (Some listing) = values_in listing
 abbrev pub all_facts : Dumps → List Fact
 all_facts dumps = root_facts dumps.ranks ++ listed_facts dumps.numbers ++ listed_facts dumps.listing
 
--- what the readers of dumps promise of what they read: plain paths, and heat within the limit
+-- what the bytes of a dump say
 abbrev pub IsReadAs : List ℕ → DumpValue → Type 0
-IsReadAs bytes (Ranks cluster) =
-    (cluster.size ≤ RANK_LIMIT) × (has_rank cluster.ranks 0 ≡ true)
-    × ((rank : ℕ) → has_rank cluster.active rank ≡ true → has_rank cluster.ranks rank ≡ true)
-IsReadAs bytes (Roots roots) = All (λ root. is_clean_path root.path.items ≡ true) roots
-IsReadAs bytes (Loads loads) =
-    All (λ fragment. is_clean_path fragment.path.items ≡ true) loads
-    × All (λ fragment. fragment.heat ≤ HEAT_LIMIT) loads
+IsReadAs bytes (Ranks cluster) = (found : MapData) × (said_map bytes ≡ Some found) × IsClusterOf found cluster
+IsReadAs bytes (Roots roots) = said_roots bytes ≡ Some (map root_data roots)
+IsReadAs bytes (Loads loads) = said_loads bytes ≡ Some (map fragment_data loads)
+
+-- why they are refused: there is no memory, or they say no such thing, or the ranks of a map can't be planned for
+abbrev pub IsNoDump : DumpKind → List ℕ → DumpError → Type 0
+IsNoDump OfRanks bytes error =
+    error ≢ Memory → (found : MapData) → said_map bytes ≡ Some found → IsBadMap found error
+IsNoDump OfRoots bytes error = error ≢ Memory → said_roots bytes ≡ None
+IsNoDump OfLoads bytes error = error ≢ Memory → said_loads bytes ≡ None

@@ -38,12 +38,11 @@ pub trait DumpReader: Copy {
 pub struct CephDumps;
 
 impl DumpReader for CephDumps {
-    ghost use Rattle.std.specs.Prelude.{⊤};
-    ghost use Rattle.mdbal_ceph.specs.Dumps.{IsReadAs};
+    ghost use Rattle.mdbal_ceph.specs.Dumps.{IsNoDump, IsReadAs};
 
     ghost says = { IsReadAs };
 
-    ghost refuses = { λ _ _ _. ⊤ };
+    ghost refuses = { IsNoDump };
 
     fn cluster(self, alloc: Global, bytes: &[u8]) -> Result<FileSystemRanks, DumpError> {
         read_cluster(alloc, bytes)

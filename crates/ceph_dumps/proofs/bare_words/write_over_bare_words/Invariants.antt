@@ -1,5 +1,12 @@
-use Rattle.std.proofs.Common.{◌≡◌, length}
+use Rattle.std.proofs.Common.{◌≡◌, ◌++◌, drop, length, take}
+use Rattle.ceph_dumps.specs.DumpText.{written_over}
+use Rattle.ceph_dumps.specs.declared.bare_words.Place.TheVariants.{Bare}
 use Rattle.ceph_dumps.proofs.bare_words.write_over_bare_words.Given as goal
 
+-- what was written, with what will be written over the rest, which is as it was
 abbrev pub invariant-loop-at : goal.invariant-loop-at
-invariant-loop-at l = (l.at-end ≡ length l.text) × (length l.text ≡ length l.initial.text)
+invariant-loop-at l = record {
+  written : written_over 0 Bare l.initial.text ≡ take l.at l.text ++ written_over l.left l.place (drop l.at l.initial.text);
+  rest : drop l.at l.text ≡ drop l.at l.initial.text;
+  size : length l.text ≡ length l.initial.text;
+}

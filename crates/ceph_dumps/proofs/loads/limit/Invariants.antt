@@ -1,9 +1,11 @@
-use Rattle.std.proofs.Common.{◌*◌, ◌≤◌, All, take}
-use Rattle.mds_types.specs.declared.limits.TheConstants.{HEAT_LIMIT}
+use Rattle.std.proofs.Common.{◌≡◌, drop, map, take}
+use Rattle.ceph_dumps.specs.Loads.{fragment_data, limited}
 use Rattle.ceph_dumps.proofs.loads.limit.Given as goal
 
+-- those before are limited, the others are as they were
 abbrev pub invariant-loop-fragment : goal.invariant-loop-fragment
 invariant-loop-fragment l = record {
-  heat : All (λ fragment. fragment.heat ≤ HEAT_LIMIT) (take l.fragment-index l.fragment-items);
-  writes : All (λ fragment. 2 * fragment.writes ≤ fragment.heat) (take l.fragment-index l.fragment-items);
+  done : map fragment_data (take l.fragment-index l.fragment-items)
+      ≡ map limited (map fragment_data (take l.fragment-index l.initial.fragment-items));
+  rest : drop l.fragment-index l.fragment-items ≡ drop l.fragment-index l.initial.fragment-items;
 }

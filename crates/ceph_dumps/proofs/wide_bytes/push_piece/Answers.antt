@@ -1,4 +1,4 @@
-use Rattle.std.proofs.Common.{◌∙◌, ◌≡◌, ◌≤◌, ◌<◌, ◌++◌, ◌+◌, ◌∷◌, [], ℕ, List, All, Result, Ok, Err, IsOk, OnOk, is_ok, if◌then◌else◌, ap, arith, get_or, length, sym, take}
+use Rattle.std.proofs.Common.{◌∙◌, ◌≡◌, ◌≤◌, ◌<◌, ◌++◌, ◌+◌, ℕ, List, All, Result, Ok, Err, OnOk, is_ok, if◌then◌else◌, ap, arith, get_or, length, sym, take}
 use Rattle.std.proofs.lemmas.List.{flat_map_more, take_all, take_more}
 use Rattle.std.proofs.lemmas.List.Elements.{All-weaker}
 use Rattle.ceph_dumps.specs.WideBytes.{wide, wide_byte}

@@ -1,6 +1,7 @@
 use Rattle.std.proofs.Common.{◌≡◌, ◌<◌, ◌≤◌, ℕ, slice_get}
 use Rattle.std.specs.Option.{option_map}
-use Rattle.ceph_snapshot.specs.Mounts.{root_data, mounted_root}
+use Rattle.ceph_dumps.specs.Subtrees.{root_data}
+use Rattle.ceph_snapshot.specs.Mounts.{mounted_root}
 use Rattle.ceph_snapshot.proofs.mounted.Mounted.name_roots.Given as goal
 
 -- those so far have the names of the mount, and the others are as they were
