@@ -6,7 +6,9 @@ use crate::bound::has_number;
 use crate::loads::loads;
 use crate::order::PartHeat;
 use crate::rank_choice::PartAmounts;
-use crate::swaps::{Ground, Swap, best_swap, hottest_hour, load_in, parts_at, reload, worst_in};
+use crate::swaps::{
+    Ground, Swap, best_swap, hottest_hour, list_of, lists, load_in, reload, worst_in,
+};
 use mds_types::{Rank, RankSet};
 use std::alloc::{AllocError, Global};
 
@@ -69,28 +71,22 @@ fn send(rank: &mut [Rank], root: u32, ranks: RankSet, part: u32, number: usize)
 
 /// Of one hour, a part of the most loaded rank and a colder one of the least loaded rank, so that both are loaded less
 /// than the first was.
-fn closest_swap(
-    alloc: Global,
-    ground: &Ground<'_>,
-    rank: &[Rank],
-    least: usize,
-) -> Result<Option<Swap>, AllocError> {
+fn closest_swap(ground: &Ground<'_>, lists: &[Vec<PartHeat>], least: usize) -> Option<Swap> {
     let here = load_in(ground.table, 0, ground.most);
     let gap = here.saturating_sub(load_in(ground.table, 0, least));
-    let hot = parts_at(alloc, ground.parts, rank, ground.most, 0)?;
-    let cold = parts_at(alloc, ground.parts, rank, least, 0)?;
-    if let Some((one, other)) = closest(&hot, &cold, gap / 2) {
-        let change = one.heat.saturating_sub(other.heat);
-        if change > 0 && change < gap {
-            return Ok(Some(Swap {
-                going: (one.part.0, ground.parts.root),
-                coming: (other.part.0, ground.parts.root),
-                to: least,
-                greatest: here,
-            }));
-        }
+    let (hot, cold) = (list_of(lists, ground.most), list_of(lists, least));
+    let (one, other) = closest(hot, cold, gap / 2)?;
+    let change = one.heat.saturating_sub(other.heat);
+    if change > 0 && change < gap {
+        Some(Swap {
+            going: (one.part.0, ground.parts.root),
+            coming: (other.part.0, ground.parts.root),
+            to: least,
+            greatest: here,
+        })
+    } else {
+        None
     }
-    Ok(None)
 }
 
 /// Sends a part from one rank to another, as `send` does, and its heat in the table of loads.
@@ -128,10 +124,11 @@ fn exchange(
         most,
         hour: hottest_hour(table, hours, most),
     };
+    let lists = lists(alloc, parts, rank, ground.hour)?;
     let swap = if hours == 1 {
-        closest_swap(alloc, &ground, rank, least)?
+        closest_swap(&ground, &lists, least)
     } else {
-        best_swap(alloc, &ground, rank)?
+        best_swap(&ground, &lists)
     };
     let Some(swap) = swap else {
         return Ok(false);

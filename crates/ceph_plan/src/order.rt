@@ -3,6 +3,7 @@ ghost use Rattle.std.specs.Prelude.{◌≡◌, ◌<◌, ◌≤◌, ℕ, length, 
 ghost use Rattle.ceph_plan.specs.Balance.{IsByHeat};
 ghost use Rattle.ceph_plan.specs.declared.order.PartHeat.{PartHeat};
 
+use crate::hours::Hour;
 use std::alloc::{AllocError, Global};
 use std::cmp::Reverse;
 
@@ -53,4 +54,18 @@ pub fn by_heat(alloc: Global, heats: &[u64]) -> Result<Vec<u32>, AllocError>
     let mut sorted = with_heats(alloc, heats)?;
     sorted.sort()?;
     parts_of(alloc, &sorted)
+}
+
+/// The parts in each hour, the hottest in it last.
+pub fn by_hour(alloc: Global, hours: &[Hour]) -> Result<Vec<Vec<PartHeat>>, AllocError> {
+    let mut found = Vec::with_capacity(alloc, hours.len())?;
+    for hour in hours {
+        if hour.heats.len() > 65536 {
+            return Ok(found);
+        }
+        let mut sorted = with_heats(alloc, &hour.heats)?;
+        sorted.sort()?;
+        found.push(sorted)?;
+    }
+    Ok(found)
 }

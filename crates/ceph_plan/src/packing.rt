@@ -7,7 +7,7 @@ ghost use Rattle.ceph_plan.specs.Refusals.{IsPlannable};
 
 use crate::hours::Hour;
 use crate::loads::worst_loads;
-use crate::order::by_heat;
+use crate::order::{by_heat, by_hour};
 use crate::rank_choice::{
     Choice, PartAmounts, even_choice, greatest_heats, kept_choice, part_hours, part_inodes,
 };
@@ -142,11 +142,13 @@ pub fn pack(
     let heats = greatest_heats(alloc, &hours, count)?;
     let inodes = part_inodes(alloc, rows, part, count)?;
     let order = by_heat(alloc, &heats)?;
+    let sorted = by_hour(alloc, &hours)?;
     let parts = PartAmounts {
         hours: &hours,
         heats: &heats,
         order: &order,
         inodes: &inodes,
+        sorted: &sorted,
         root: part[0],
         ranks,
     };

@@ -13,6 +13,7 @@ use crate::bound::{has_number, most};
 use crate::exchange::exchanged;
 use crate::hours::Hour;
 use crate::loads::{add, greatest_loads, load_with, pinned_loads, worst_loads};
+use crate::order::PartHeat;
 use mds_types::{ProblemRow, Rank, RankSet};
 use std::alloc::{AllocError, Global};
 
@@ -122,6 +123,8 @@ pub struct PartAmounts<'a> {
     pub order: &'a [u32],
     /// The inodes of each part at each rank, 64 numbers a part.
     pub inodes: &'a [u64],
+    /// The parts in each hour, the hottest in it last.
+    pub sorted: &'a [Vec<PartHeat>],
     /// The part of the root, which goes to rank 0.
     pub root: u32,
     /// The ranks that may have a part, with rank 0.

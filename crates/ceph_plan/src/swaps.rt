@@ -80,34 +80,45 @@ pub(crate) fn hottest_hour(table: &[u64], hours: usize, rank: usize) -> usize {
     best
 }
 
-/// The parts at a rank but the root's, the hottest in an hour last. The first is none.
-pub(crate) fn parts_at(
+/// Adds to the list of each rank its parts but the root's, the hottest in an hour last.
+fn fill(
+    lists: &mut [Vec<PartHeat>],
+    parts: &PartAmounts<'_>,
+    rank: &[Rank],
+    hour: usize,
+) -> Result<(), AllocError> {
+    let sorted = match parts.sorted.get(hour) {
+        Some(sorted) => sorted.as_slice(),
+        None => &[],
+    };
+    for one in sorted {
+        let at = match rank.get(one.part.0 as usize) {
+            Some(here) => usize::from(here.number()),
+            None => lists.len(),
+        };
+        if at < lists.len() && one.part.0 != parts.root {
+            lists[at].push(*one)?;
+        }
+    }
+    Ok(())
+}
+
+/// The parts at each rank but the root's, the hottest in an hour last. The first of each is none.
+pub(crate) fn lists(
     alloc: Global,
     parts: &PartAmounts<'_>,
     rank: &[Rank],
-    at: usize,
     hour: usize,
-) -> Result<Vec<PartHeat>, AllocError> {
+) -> Result<Vec<Vec<PartHeat>>, AllocError> {
     let none = PartHeat {
         heat: 0,
         part: Reverse(parts.root),
     };
-    let mut found = vec![in alloc; none; 1]?;
-    for part in parts.order {
-        let is_there = match rank.get(*part as usize) {
-            Some(here) => usize::from(here.number()) == at,
-            None => false,
-        };
-        if is_there && *part != parts.root {
-            found.push(PartHeat {
-                heat: heat_in(parts, hour, *part),
-                part: Reverse(*part),
-            })?;
-        }
+    let mut found = Vec::with_capacity(alloc, 64)?;
+    for _ in 0..64 {
+        found.push(vec![in alloc; none; 1]?)?;
     }
-    if parts.hours.len() > 1 {
-        found.sort()?;
-    }
+    fill(&mut found, parts, rank, hour)?;
     Ok(found)
 }
 
@@ -298,22 +309,25 @@ fn best_two_come(of: &Between<'_>, best: Swap) -> Swap {
     best
 }
 
+/// The parts of the rank of this number.
+pub(crate) fn list_of(lists: &[Vec<PartHeat>], number: usize) -> &[PartHeat] {
+    match lists.get(number) {
+        Some(list) => list.as_slice(),
+        None => &[],
+    }
+}
+
 /// The best exchange, of one part for one, or with `pairs` of two for one and of one for two.
-fn best_of(
-    alloc: Global,
-    ground: &Ground<'_>,
-    rank: &[Rank],
-    hot: &[PartHeat],
-    pairs: bool,
-) -> Result<Swap, AllocError> {
+fn best_of(ground: &Ground<'_>, lists: &[Vec<PartHeat>], pairs: bool) -> Swap {
     let mut best = none_with(ground, ground.most);
+    let hot = list_of(lists, ground.most);
     for number in 0..64u8 {
         let to = usize::from(number);
         if to != ground.most && has_number(ground.parts.ranks, number) {
-            let cold = &parts_at(alloc, ground.parts, rank, to, ground.hour)?;
+            let cold = list_of(lists, to);
             let of = Between {
                 ground: &*ground,
-                hot: &*hot,
+                hot,
                 cold,
                 to,
             };
@@ -324,27 +338,22 @@ fn best_of(
             };
         }
     }
-    Ok(best)
+    best
 }
 
 /// The exchange that leaves both ranks least loaded in any hour, if there is one that leaves them less loaded than
 /// the most loaded rank is: of one part for one, else of two for one.
-pub(crate) fn best_swap(
-    alloc: Global,
-    ground: &Ground<'_>,
-    rank: &[Rank],
-) -> Result<Option<Swap>, AllocError> {
-    let hot = parts_at(alloc, ground.parts, rank, ground.most, ground.hour)?;
+pub(crate) fn best_swap(ground: &Ground<'_>, lists: &[Vec<PartHeat>]) -> Option<Swap> {
     let now = load_in(ground.table, ground.hour, ground.most);
-    let mut best = best_of(alloc, ground, rank, &hot, false)?;
+    let mut best = best_of(ground, lists, false);
     if best.greatest >= now {
-        best = best_of(alloc, ground, rank, &hot, true)?;
+        best = best_of(ground, lists, true);
     }
-    Ok(if best.greatest < now {
+    if best.greatest < now {
         Some(best)
     } else {
         None
-    })
+    }
 }
 
 /// The load of a rank, in the hour in which it is greatest.

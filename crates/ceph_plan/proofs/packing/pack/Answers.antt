@@ -22,7 +22,7 @@ pub invariant_of-parts : goal.invariant_of-parts
 invariant_of-parts c =
     let hours : List Hour = c.in_ok-hours.hours.items in
     let heats : List ℕ = c.in_ok-heats.heats.items in
-    let size : length c.deref-4.result.now ≡ c.args.count = ap length c.deref-4.ensures.value ∙ c.in_ok-heats.ensures.size in
+    let size : length c.deref-5.result.now ≡ c.args.count = ap length c.deref-5.ensures.value ∙ c.in_ok-heats.ensures.size in
     let rows : AreHours c.args.hours.now (length c.args.part.now) =
     subst (AreHours c.args.hours.now) (sym c.requires.parts.size)
     (row-hours c.args.rows.now c.args.hours.now c.requires.parts.forest c.requires.heats c.requires.able.held) in
@@ -30,24 +30,24 @@ invariant_of-parts c =
       are =
           record {
             few = omega (arith, size, c.requires.few);
-            inodes_size = ap length c.deref-6.ensures.value ∙ (c.in_ok-inodes.ensures.size ∙ ap (λ (n : ℕ). n * 64) (sym size));
-            by_heat = subst (λ (xs : List ℕ). IsByHeat xs c.deref-5.result.now) (c.deref-2.ensures.value ∙ sym c.deref-4.ensures.value)
-                (subst (λ (order : List ℕ). IsByHeat c.deref-2.result.now order) (sym c.deref-5.ensures.value) c.in_ok-order.ensures);
+            inodes_size = ap length c.deref-7.ensures.value ∙ (c.in_ok-inodes.ensures.size ∙ ap (λ (n : ℕ). n * 64) (sym size));
+            by_heat = subst (λ (xs : List ℕ). IsByHeat xs c.deref-6.result.now) (c.deref-2.ensures.value ∙ sym c.deref-5.ensures.value)
+                (subst (λ (order : List ℕ). IsByHeat c.deref-2.result.now order) (sym c.deref-6.ensures.value) c.in_ok-order.ensures);
             inside = omega (arith, c.requires.parts.below 0 c.requires.able.some, size);
             zero = c.requires.able.zero;
-            hours_are = subst (λ (those : List Hour). AreHours those (length c.deref-4.result.now)) (sym c.deref-3.ensures.value)
+            hours_are = subst (λ (those : List Hour). AreHours those (length c.deref-5.result.now)) (sym c.deref-4.ensures.value)
                 (subst (AreHours hours) (sym size)
                 (hours-parts c.args.hours.now hours (length c.args.part.now) c.args.count c.args.part.now rows (λ i l. c.requires.parts.below i (omega (arith, l, c.requires.parts.size))) c.in_ok-hours.ensures));
-            greatest = subst (λ (those : List Hour). AreGreatest those c.deref-4.result.now) (sym c.deref-3.ensures.value)
-                (subst (AreGreatest hours) (sym c.deref-4.ensures.value) (subst (λ (those : List Hour). AreGreatest those heats) c.deref.ensures.value c.in_ok-heats.ensures.greatest));
+            greatest = subst (λ (those : List Hour). AreGreatest those c.deref-5.result.now) (sym c.deref-4.ensures.value)
+                (subst (AreGreatest hours) (sym c.deref-5.ensures.value) (subst (λ (those : List Hour). AreGreatest those heats) c.deref.ensures.value c.in_ok-heats.ensures.greatest));
           };
     }
 
 pub moved-moved-requires : goal.moved-moved-requires
 moved-moved-requires c =
     let is : IsPartsPacking c.args.ranks c.in_ok-hours.hours.items c.in_ok-heats.heats.items c.in_ok-inodes.inodes.items (slice_index c.args.part.now 0) c.in_ok-even.even.rank.items c.in_ok-packing.packing =
-    parts-same c.args.ranks c.in_ok-hours.hours.items c.deref-3.result.now c.in_ok-heats.heats.items c.in_ok-inodes.inodes.items c.deref-4.result.now c.deref-6.result.now (slice_index c.args.part.now 0)
-    c.in_ok-even.even.rank.items c.in_ok-packing.packing c.deref-3.ensures.value c.deref-4.ensures.value c.deref-6.ensures.value c.in_ok-packing.ensures.parts in
+    parts-same c.args.ranks c.in_ok-hours.hours.items c.deref-4.result.now c.in_ok-heats.heats.items c.in_ok-inodes.inodes.items c.deref-5.result.now c.deref-7.result.now (slice_index c.args.part.now 0)
+    c.in_ok-even.even.rank.items c.in_ok-packing.packing c.deref-4.ensures.value c.deref-5.ensures.value c.deref-7.ensures.value c.in_ok-packing.ensures.parts in
     subst (HaveParts c.args.rows.now c.args.part.now)
     (sym (ap length c.deref-in-loop-keep.ensures.value ∙ (is.ranks_are.size ∙ c.in_ok-heats.ensures.size)))
     c.requires.parts
@@ -73,11 +73,11 @@ loop-keep-preserved c =
       there = c.in_ok-inodes.ensures.inodes;
     } in
     let by_heat : IsEvenPacking c.args.ranks parts heats (slice_index part 0) even =
-    subst (λ (those : List Hour). IsEvenPacking c.args.ranks those heats (slice_index part 0) even) c.deref-3.ensures.value
-    (subst (λ (those : List ℕ). IsEvenPacking c.args.ranks c.deref-3.result.now those (slice_index part 0) even) c.deref-4.ensures.value c.in_ok-even.ensures.even) in
+    subst (λ (those : List Hour). IsEvenPacking c.args.ranks those heats (slice_index part 0) even) c.deref-4.ensures.value
+    (subst (λ (those : List ℕ). IsEvenPacking c.args.ranks c.deref-4.result.now those (slice_index part 0) even) c.deref-5.ensures.value c.in_ok-even.ensures.even) in
     let is : IsPartsPacking c.args.ranks parts heats inodes (slice_index part 0) even packing =
-    parts-same c.args.ranks c.in_ok-hours.hours.items c.deref-3.result.now c.in_ok-heats.heats.items c.in_ok-inodes.inodes.items c.deref-4.result.now c.deref-6.result.now (slice_index c.args.part.now 0)
-    c.in_ok-even.even.rank.items c.in_ok-packing.packing c.deref-3.ensures.value c.deref-4.ensures.value c.deref-6.ensures.value c.in_ok-packing.ensures.parts in
+    parts-same c.args.ranks c.in_ok-hours.hours.items c.deref-4.result.now c.in_ok-heats.heats.items c.in_ok-inodes.inodes.items c.deref-5.result.now c.deref-7.result.now (slice_index c.args.part.now 0)
+    c.in_ok-even.even.rank.items c.in_ok-packing.packing c.deref-4.ensures.value c.deref-5.ensures.value c.deref-7.ensures.value c.in_ok-packing.ensures.parts in
     let next : suc at ≡ at + 1 = omega arith in
     let one : take at tolerances ++ packing.keep ∷ [] ≡ take (at + 1) tolerances =
     ap (λ (keep : ℕ). take at tolerances ++ keep ∷ []) c.in_ok-packing.ensures.keep
