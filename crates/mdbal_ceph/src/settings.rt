@@ -353,7 +353,7 @@ fn least_of(matches: &ArgMatches<'_>) -> Result<Least, &'static str>
         )?,
         percent: percent_of(
             value_or(matches, "least-gain", "5"),
-            "--least-gain takes a whole number from 0 to 255, without a sign of percent",
+            "--least-gain takes a whole number from 0 to 255, without a percent sign",
         )?,
         each_thousand: heat_of(
             value_or(matches, "least-by-inodes", "0"),
@@ -406,7 +406,7 @@ fn found<'a>(
     let parts = parts_of(value_or(matches, "parts", "auto"), most)?;
     let keep = percent_of(
         value_or(matches, "keep", "5"),
-        "--keep takes a whole number from 0 to 255, without a sign of percent",
+        "--keep takes a whole number from 0 to 255, without a percent sign",
     )?;
     let (folder, past) = hours_asked(matches, folders)?;
     Ok(PlanSettings {
