@@ -5,6 +5,7 @@ pub mod Each
 pub mod Figures
 pub mod Hours
 pub mod Limiting
+pub mod Keeping
 pub mod Lines
 pub mod Names
 pub mod Narrow

@@ -2,6 +2,7 @@
 use Rattle.std.proofs.Common.{◌≡◌, ℕ, zero, suc, ◌-◌, ◌<◌, ◌≤◌, List, [], ◌∷◌, ◌++◌, length, Option, Some, None, true, false}
 use Rattle.std.proofs.Common.{option_map, option_and_then, refl, sym, ap, ◌∙◌, append_assoc, append-nil, is_some, true≢false}
 use Rattle.std.specs.Str.{bytes_eq}
+use Rattle.json.specs.Find.{as_object}
 use Rattle.json.specs.Token.{Token}
 use Rattle.json.specs.Json.{Json, array, object, Items, item, Members, member, Parse, parse_map}
 use Rattle.json.specs.Json.{after_end_array, read_key, items_step, items, members, value}
@@ -30,6 +31,52 @@ said_some said (Some part) what rest e =
 unsaid : {B : Type 0} (left : List Token) (x : Option B) → option_map {U = B × List Token} (λ w. (w, left)) x ≡ None → x ≡ None
 unsaid left None e = refl
 unsaid left (Some w) e = absurd (cc)
+
+-- ---- what opens a list, and an object
+
+pub opened_array : (ts r : List Token) → after_open_array ts ≡ Some r → ts ≡ Token.begin_array ∷ r
+opened_array [] r e = absurd (cc)
+opened_array (Token.begin_object ∷ ts) r e = absurd (cc)
+opened_array (Token.end_object ∷ ts) r e = absurd (cc)
+opened_array (Token.begin_array ∷ ts) r e = ap (λ (rest : List Token). Token.begin_array ∷ rest) (ap (pick ts) e)
+opened_array (Token.end_array ∷ ts) r e = absurd (cc)
+opened_array (Token.key text ∷ ts) r e = absurd (cc)
+opened_array (Token.string text ∷ ts) r e = absurd (cc)
+opened_array (Token.number text ∷ ts) r e = absurd (cc)
+opened_array (Token.boolean truth ∷ ts) r e = absurd (cc)
+opened_array (Token.null ∷ ts) r e = absurd (cc)
+opened_array (Token.bad ∷ ts) r e = absurd (cc)
+
+pub opened_object : (ts r : List Token) → after_open_object ts ≡ Some r → ts ≡ Token.begin_object ∷ r
+opened_object [] r e = absurd (cc)
+opened_object (Token.begin_object ∷ ts) r e = ap (λ (rest : List Token). Token.begin_object ∷ rest) (ap (pick ts) e)
+opened_object (Token.end_object ∷ ts) r e = absurd (cc)
+opened_object (Token.begin_array ∷ ts) r e = absurd (cc)
+opened_object (Token.end_array ∷ ts) r e = absurd (cc)
+opened_object (Token.key text ∷ ts) r e = absurd (cc)
+opened_object (Token.string text ∷ ts) r e = absurd (cc)
+opened_object (Token.number text ∷ ts) r e = absurd (cc)
+opened_object (Token.boolean truth ∷ ts) r e = absurd (cc)
+opened_object (Token.null ∷ ts) r e = absurd (cc)
+opened_object (Token.bad ∷ ts) r e = absurd (cc)
+
+module _ {A : Type 0} (said : Json → Option A) (none : (j : Json) → as_object j ≡ None → said j ≡ None) where
+  array_unsaid : (o : Option (Items × List Token)) → said_of said (parse_map array o) ≡ None
+  array_unsaid None = refl
+  array_unsaid (Some part) = rw (none (array part.0) refl) refl
+
+  pub no_object : (depth : ℕ) (ts : List Token) → after_open_object ts ≡ None → said_of said (value depth ts) ≡ None
+  no_object depth [] e = ap (said_of said) (value_is depth [])
+  no_object depth (Token.begin_object ∷ ts) e = absurd (cc)
+  no_object depth (Token.end_object ∷ ts) e = ap (said_of said) (value_is depth (Token.end_object ∷ ts))
+  no_object depth (Token.begin_array ∷ ts) e = ap (said_of said) (value_is depth (Token.begin_array ∷ ts)) ∙ array_unsaid _
+  no_object depth (Token.end_array ∷ ts) e = ap (said_of said) (value_is depth (Token.end_array ∷ ts))
+  no_object depth (Token.key text ∷ ts) e = ap (said_of said) (value_is depth (Token.key text ∷ ts))
+  no_object depth (Token.string text ∷ ts) e = ap (said_of said) (value_is depth (Token.string text ∷ ts)) ∙ ap (option_map (λ w. (w, ts))) (none (Json.string text) refl)
+  no_object depth (Token.number text ∷ ts) e = ap (said_of said) (value_is depth (Token.number text ∷ ts)) ∙ ap (option_map (λ w. (w, ts))) (none (Json.number text) refl)
+  no_object depth (Token.boolean truth ∷ ts) e = ap (said_of said) (value_is depth (Token.boolean truth ∷ ts)) ∙ ap (option_map (λ w. (w, ts))) (none (Json.boolean truth) refl)
+  no_object depth (Token.null ∷ ts) e = ap (said_of said) (value_is depth (Token.null ∷ ts)) ∙ ap (option_map (λ w. (w, ts))) (none Json.null refl)
+  no_object depth (Token.bad ∷ ts) e = ap (said_of said) (value_is depth (Token.bad ∷ ts))
 
 -- ---- lists
 
@@ -94,19 +141,9 @@ module _ {A : Type 0} (said : Json → Option A) where
 
   pub list_opened : (depth : ℕ) (ts r : List Token) → 0 < depth → after_open_array ts ≡ Some r
       → said_of (list_of said) (value depth ts) ≡ said_of (each said) (items (value (depth - 1)) (length r) r)
-  list_opened depth [] r some e = absurd (cc)
-  list_opened depth (Token.begin_object ∷ ts) r some e = absurd (cc)
-  list_opened depth (Token.end_object ∷ ts) r some e = absurd (cc)
-  list_opened depth (Token.begin_array ∷ ts) r some e =
-      ap (said_of (list_of said)) (value-begin_array depth ts some) ∙ array_said _
-      ∙ ap (λ (rest : List Token). said_of (each said) (items (value (depth - 1)) (length rest) rest)) (ap (pick ts) e)
-  list_opened depth (Token.end_array ∷ ts) r some e = absurd (cc)
-  list_opened depth (Token.key text ∷ ts) r some e = absurd (cc)
-  list_opened depth (Token.string text ∷ ts) r some e = absurd (cc)
-  list_opened depth (Token.number text ∷ ts) r some e = absurd (cc)
-  list_opened depth (Token.boolean truth ∷ ts) r some e = absurd (cc)
-  list_opened depth (Token.null ∷ ts) r some e = absurd (cc)
-  list_opened depth (Token.bad ∷ ts) r some e = absurd (cc)
+  list_opened depth ts r some e =
+      ap (λ (tokens : List Token). said_of (list_of said) (value depth tokens)) (opened_array ts r e)
+      ∙ ap (said_of (list_of said)) (value-begin_array depth r some) ∙ array_said _
 
   object_unsaid : (o : Option (Members × List Token)) → said_of (list_of said) (parse_map object o) ≡ None
   object_unsaid None = refl
@@ -301,33 +338,9 @@ module _ {A : Type 0} (said : Json → Option A) (name : List ℕ) where
 
   pub object_opened : (depth : ℕ) (ts r : List Token) → 0 < depth → after_open_object ts ≡ Some r
       → said_of (list_in said name) (value depth ts) ≡ object_as (members (value (depth - 1)) (length r) r)
-  object_opened depth [] r some e = absurd (cc)
-  object_opened depth (Token.begin_object ∷ ts) r some e =
-      ap (said_of (list_in said name)) (value-begin_object depth ts some)
-      ∙ ap (λ (rest : List Token). object_as (members (value (depth - 1)) (length rest) rest)) (ap (pick ts) e)
-  object_opened depth (Token.end_object ∷ ts) r some e = absurd (cc)
-  object_opened depth (Token.begin_array ∷ ts) r some e = absurd (cc)
-  object_opened depth (Token.end_array ∷ ts) r some e = absurd (cc)
-  object_opened depth (Token.key text ∷ ts) r some e = absurd (cc)
-  object_opened depth (Token.string text ∷ ts) r some e = absurd (cc)
-  object_opened depth (Token.number text ∷ ts) r some e = absurd (cc)
-  object_opened depth (Token.boolean truth ∷ ts) r some e = absurd (cc)
-  object_opened depth (Token.null ∷ ts) r some e = absurd (cc)
-  object_opened depth (Token.bad ∷ ts) r some e = absurd (cc)
+  object_opened depth ts r some e =
+      ap (λ (tokens : List Token). said_of (list_in said name) (value depth tokens)) (opened_object ts r e)
+      ∙ ap (said_of (list_in said name)) (value-begin_object depth r some)
 
-  array_unsaid : (o : Option (Items × List Token)) → said_of (list_in said name) (parse_map array o) ≡ None
-  array_unsaid None = refl
-  array_unsaid (Some part) = refl
-
-  pub no_object : (depth : ℕ) (ts : List Token) → after_open_object ts ≡ None → said_of (list_in said name) (value depth ts) ≡ None
-  no_object depth [] e = ap (said_of (list_in said name)) (value_is depth [])
-  no_object depth (Token.begin_object ∷ ts) e = absurd (cc)
-  no_object depth (Token.end_object ∷ ts) e = ap (said_of (list_in said name)) (value_is depth (Token.end_object ∷ ts))
-  no_object depth (Token.begin_array ∷ ts) e = ap (said_of (list_in said name)) (value_is depth (Token.begin_array ∷ ts)) ∙ array_unsaid _
-  no_object depth (Token.end_array ∷ ts) e = ap (said_of (list_in said name)) (value_is depth (Token.end_array ∷ ts))
-  no_object depth (Token.key text ∷ ts) e = ap (said_of (list_in said name)) (value_is depth (Token.key text ∷ ts))
-  no_object depth (Token.string text ∷ ts) e = ap (said_of (list_in said name)) (value_is depth (Token.string text ∷ ts))
-  no_object depth (Token.number text ∷ ts) e = ap (said_of (list_in said name)) (value_is depth (Token.number text ∷ ts))
-  no_object depth (Token.boolean truth ∷ ts) e = ap (said_of (list_in said name)) (value_is depth (Token.boolean truth ∷ ts))
-  no_object depth (Token.null ∷ ts) e = ap (said_of (list_in said name)) (value_is depth (Token.null ∷ ts))
-  no_object depth (Token.bad ∷ ts) e = ap (said_of (list_in said name)) (value_is depth (Token.bad ∷ ts))
+  pub not_listed : (j : Json) → as_object j ≡ None → list_in said name j ≡ None
+  not_listed j e = rw e refl

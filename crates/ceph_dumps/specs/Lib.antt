@@ -5,6 +5,8 @@ pub mod DumpText
 pub mod HourRecord
 pub mod Inode
 pub mod Inodes
+pub mod Kept
+pub mod KeptLaws
 pub mod KeyPath
 pub mod Listing
 pub mod Loads

@@ -1,10 +1,11 @@
 -- What the dump of a rank's loads says of directory fragments.
-use Rattle.std.specs.Prelude.{◌/◌, List, [], ◌∷◌, ℕ, pos, Option, Some, None, codes, map, min}
+use Rattle.std.specs.Prelude.{◌/◌, ◌||◌, Bool, List, [], ◌∷◌, ℕ, pos, Option, Some, None, codes, map, min}
 use Rattle.std.specs.Prelude.{option_and_then, option_map, if◌then◌else◌}
 use lib.Ieee as Ieee
 use Rattle.std.specs.Float.{Float, binary64, float_to_unsigned, float_zero}
 use Rattle.std.specs.Int.{w64}
 use Rattle.std.specs.List.{list_all}
+use Rattle.std.specs.Str.{bytes_eq}
 use Rattle.json.specs.Find.{as_array, as_str}
 use Rattle.json.specs.Json.{Items, Json}
 use Rattle.mds_types.specs.declared.limits.TheConstants.{HEAT_LIMIT}
@@ -79,6 +80,10 @@ fragment_from path name counters = record {
   heat = heat_of counters WEIGHTS.now;
   writes = heat_of counters WRITES.now;
 }
+
+-- the members of a fragment that are read
+abbrev pub is_read : List ℕ → Bool
+is_read name = bytes_eq name (codes "path") || (bytes_eq name (codes "dirfrag") || bytes_eq name (codes "pop_me"))
 
 abbrev pub fragment_in : Json → Option FragmentData
 fragment_in value =

@@ -37,12 +37,11 @@ impl Place {
 fn word_length(text: &[u8]) -> usize
     ensures { result ≡ word_length text.now }
 {
-    if text.starts_with(b"-inf") || text.starts_with(b"-nan") {
-        4
-    } else if text.starts_with(b"inf") || text.starts_with(b"nan") {
-        3
-    } else {
-        0
+    match text.first() {
+        Some(b'-') if text.starts_with(b"-inf") || text.starts_with(b"-nan") => 4,
+        Some(b'i') if text.starts_with(b"inf") => 3,
+        Some(b'n') if text.starts_with(b"nan") => 3,
+        _ => 0,
     }
 }
 

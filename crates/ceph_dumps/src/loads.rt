@@ -129,13 +129,22 @@ fn inode_in(value: &Value<'_>) -> Option<Option<u64>>
 }
 
 impl Item for FragmentHeat {
-    ghost use Rattle.ceph_dumps.specs.Loads.{FragmentData, fragment_data, fragment_in};
+    ghost use Rattle.ceph_dumps.specs.Loads.{FragmentData, fragment_data, fragment_in, is_read};
+    ghost use Rattle.ceph_dumps.specs.KeptLaws.{fragment_law};
 
     ghost Said = { FragmentData };
 
     ghost shown = { fragment_data };
 
     ghost said = { fragment_in };
+
+    ghost kept = { is_read };
+
+    ghost law = { fragment_law };
+
+    fn keeps(name: &str) -> bool {
+        name == "path" || name == "dirfrag" || name == "pop_me"
+    }
 
     fn of(alloc: Global, value: &Value<'_>) -> Result<FragmentHeat, Unfit> {
         let Some(path) = text_in(value, "path") else {

@@ -107,13 +107,23 @@ fn authority_in(value: &Value<'_>) -> Option<i64>
 }
 
 impl Item for SubtreeRoot {
+    ghost use Rattle.std.specs.Prelude.{true};
     ghost use Rattle.ceph_dumps.specs.Subtrees.{RootData, root_data, root_in};
+    ghost use Rattle.ceph_dumps.specs.KeptLaws.{root_law};
 
     ghost Said = { RootData };
 
     ghost shown = { root_data };
 
     ghost said = { root_in };
+
+    ghost kept = { λ _. true };
+
+    ghost law = { root_law };
+
+    fn keeps(_: &str) -> bool {
+        true
+    }
 
     fn of(alloc: Global, value: &Value<'_>) -> Result<SubtreeRoot, Unfit> {
         let Some(is_here) = truth_in(value, "is_auth") else {

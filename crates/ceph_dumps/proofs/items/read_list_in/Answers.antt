@@ -1,10 +1,12 @@
 use Rattle.std.proofs.Common.{◌∙◌, Some, arith, ap, map, option_map}
 use Rattle.std.proofs.lemmas.Result.{err_from_is_err_and}
-use Rattle.ceph_dumps.proofs.Saying.{no_object, object_opened, object_refused, object_said, object_without}
+use Rattle.ceph_dumps.specs.Members.{list_in}
+use Rattle.ceph_dumps.proofs.Saying.{no_object, not_listed, object_opened, object_refused, object_said, object_without}
 use Rattle.ceph_dumps.proofs.items.read_list_in.Goals as goal
 
 pub returns-then-not-open_object-clause-none : goal.returns-then-not-open_object-clause-none
-returns-then-not-open_object-clause-none g c = λ _. no_object g.T.Item.said c.args.name.now c.args.depth c.args.reader.now (grind arith)
+returns-then-not-open_object-clause-none g c = λ _.
+    no_object (list_in g.T.Item.said c.args.name.now) (not_listed g.T.Item.said c.args.name.now) c.args.depth c.args.reader.now (grind arith)
 
 pub returns-in-Some-clause-is : goal.returns-in-Some-clause-is
 returns-in-Some-clause-is g c =
