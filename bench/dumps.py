@@ -1,9 +1,10 @@
 #!/usr/bin/env python3
-"""Writes what ceph/collect would write of a file system with n directories on 8 ranks: dumps.py DIR N [SEED].
+"""Writes what ceph/collect would write of a file system with n directories on 8 ranks: dumps.py DIR N [SEED [HOURS]].
 
 The tree is broad and shallow. Each of the root's children is at some rank with all below it. Heat is by Zipf's law over the
 directories in random order. A directory's fragment has the counters that Ceph 16.2 prints of it, and a dump ends in a bare
-`-inf`, as 16.2 prints it.
+`-inf`, as 16.2 prints it. With HOURS there are as many records of earlier hours, hour.1 and so on, each with the same heats at
+other directories.
 """
 import json
 import random
@@ -12,6 +13,7 @@ import sys
 RANKS = 8
 POPULATIONS = ("pop_me", "pop_nested", "pop_auth_subtree", "pop_auth_subtree_nested")
 COUNTERS = 5
+COMPLETE = "lab 0d2c6f0e-1a53-4c3c-9d83-5f6a1d1f2a77\n"
 
 
 def tree(n, rng):
@@ -53,6 +55,14 @@ def write(path, text):
         to.write(text)
 
 
+def write_hours(folder, paths, heats, hours, rng):
+    """Records of earlier hours, as `--record` of mdbal_ceph writes them."""
+    for hour in range(1, hours + 1):
+        rng.shuffle(heats)
+        lines = [f"{int(1000 * heat)} {path}\n" for path, heat in zip(paths, heats)]
+        write(f"{folder}/hour.{hour}", f"mdbal-hour 1\n{COMPLETE}{' '.join('0' * 64)}\n{''.join(lines)}")
+
+
 def main():
     folder, n = sys.argv[1], int(sys.argv[2])
     rng = random.Random(int(sys.argv[3]) if len(sys.argv) > 3 else 1)
@@ -62,7 +72,7 @@ def main():
     daemons = {f"gid_{100 + rank}": {"rank": rank, "state": "up:active"} for rank in range(RANKS)}
     members = {"max_mds": RANKS, "in": list(range(RANKS)), "info": daemons, "bal_rank_mask": "-1"}
     write(f"{folder}/fs.json", json.dumps({"mdsmap": members, "id": 1}))
-    write(f"{folder}/complete", "lab 0d2c6f0e-1a53-4c3c-9d83-5f6a1d1f2a77\n")
+    write(f"{folder}/complete", COMPLETE)
     for rank in range(RANKS):
         mine = [number for number in range(n) if ranks[number] == rank]
         fragments = [fragment(paths[number], number, heats[number], rng) for number in mine]
@@ -72,6 +82,8 @@ def main():
         write(f"{folder}/subtrees.{rank}.json", json.dumps(roots))
     names = (path[1:] or "." for path in paths)
     write(f"{folder}/dirs", "".join(f'# file: {name}\nceph.dir.entries="{1 + rng.randrange(1000)}"\n\n' for name in names))
+    if len(sys.argv) > 4:
+        write_hours(folder, paths, heats, int(sys.argv[4]), rng)
 
 
 main()

@@ -1,13 +1,15 @@
 -- Words that are written over, a byte at a time.
-use Rattle.std.proofs.Common.{◌≡◌, ◌≢◌, ◌<◌, ◌+◌, ◌-◌, ◌∙◌, ◌==◌, ℕ, false, List, [], ◌∷◌, ◌++◌, length, drop, get_or, set, take, None, Some}
-use Rattle.std.proofs.Common.{Option, append_assoc, arith, ap, get_or-set_same, refl, sym}
-use Rattle.std.proofs.lemmas.Bool.{ne_eqb}
+use Rattle.std.proofs.Common.{◌≡◌, ◌≢◌, ◌<◌, ◌+◌, ◌-◌, ◌∙◌, ◌==◌, ℕ, false, true, List, [], ◌∷◌, ◌++◌, length, drop, get_or, set, take, None, Some}
+use Rattle.std.proofs.Common.{◌≤◌, ◌||◌, Bool, Option, append_assoc, arith, ap, codes, get_or-set_same, not, refl, subst, suc, sym, true≢false, zero}
+use Rattle.std.proofs.lemmas.Bool.{eq-eqb, ne_eqb}
 use Rattle.std.proofs.lemmas.Grind.{drop_more_same}
+use Rattle.std.proofs.lemmas.Slice.Eq.{bytes_eq-Decides}
 use Rattle.std.proofs.lemmas.List.{drop_more, length-set, take-set-le, take_more}
 use Rattle.memchr.specs.Find.{FindsNeedle, OccursAt}
-use Rattle.ceph_dumps.specs.DumpText.{over_byte, word_left, written_over}
+use Rattle.ceph_dumps.specs.DumpText.{IsQuietTo, begins_with, is_quiet, over_byte, word_left, written_over}
 use Rattle.ceph_dumps.specs.KeyPath.{place_after}
 use Rattle.ceph_dumps.specs.declared.bare_words.Place.{Place}
+use Rattle.ceph_dumps.specs.declared.bare_words.Place.TheVariants.{Bare, Escaped, Quoted}
 
 pub nowhere : (text word : List ℕ) (found : Option ℕ) → FindsNeedle text word 0 found → found ≡ None → (at : ℕ) → OccursAt text word at → ⊥
 nowhere text word None none is at o = none at (omega arith) (omega (arith, o.fits)) o
@@ -33,7 +35,7 @@ module _ (old now whole : List ℕ) (at left : ℕ) (place : Place) (inside : at
   kept : (n : ℕ) → word_left left place (get_or now at 0 ∷ drop (at + 1) now) ≡ n → n ≡ 0
       → written_over left place (get_or now at 0 ∷ drop (at + 1) now)
       ≡ get_or now at 0 ∷ written_over 0 (place_after place (get_or now at 0)) (drop (at + 1) now)
-  kept n e zero = rw (e ∙ zero) refl
+  kept n e none = rw (e ∙ none) refl
 
   pub keep_turn : word_left left place (drop at now) ≡ 0
       → whole ≡ take (at + 1) now ++ written_over 0 (place_after place (get_or now at 0)) (drop (at + 1) old)
@@ -62,3 +64,62 @@ module _ (old now whole : List ℕ) (at left : ℕ) (place : Place) (inside : at
       ∙ sym (append_assoc (take at now) (over_byte (n - 1) ∷ []) (written_over (n - 1) place (drop (at + 1) now)))
       ∙ ap (λ (t : List ℕ). t ++ written_over (n - 1) place (drop (at + 1) now)) (sym front)
       ∙ ap (λ (t : List ℕ). take (at + 1) changed ++ written_over (n - 1) place t) rest_on
+
+-- ---- a run of quiet bytes
+
+four : (a b c d : Bool) → not (a || b || c || d) ≡ true → (a ≡ false) × (b ≡ false) × (c ≡ false) × (d ≡ false)
+four true b c d e = absurd (cc)
+four false true c d e = absurd (cc)
+four false false true d e = absurd (cc)
+four false false false true e = absurd (cc)
+four false false false false e = (refl, refl, refl, refl)
+
+two : (a b : Bool) → not (a || b) ≡ true → (a ≡ false) × (b ≡ false)
+two true b e = absurd (cc)
+two false true e = absurd (cc)
+two false false e = (refl, refl)
+
+not_begun : (byte : ℕ) (text : List ℕ) (first : ℕ) (others : List ℕ) → (byte == first) ≡ false
+    → begins_with (byte ∷ text) (first ∷ others) ≡ false
+not_begun byte text first others other = by_cases (begins_with (byte ∷ text) (first ∷ others)) refl where
+  by_cases : (b : Bool) → begins_with (byte ∷ text) (first ∷ others) ≡ b → b ≡ false
+  by_cases false e = refl
+  by_cases true e =
+      let same : byte ≡ first = ap (λ (t : List ℕ). get_or t 0 0) ((bytes_eq-Decides (take (length (first ∷ others)) (byte ∷ text)) (first ∷ others)).0 e) in
+      absurd (true≢false (sym (eq-eqb byte first same) ∙ other))
+
+quiet_word : (place : Place) (byte : ℕ) (text : List ℕ) → is_quiet place byte ≡ true → word_left 0 place (byte ∷ text) ≡ 0
+quiet_word Bare byte text quiet =
+    let none = four (byte == 34) (byte == 45) (byte == 105) (byte == 110) quiet in
+    rw (not_begun byte text 45 (codes "inf") none.1)
+    (rw (not_begun byte text 45 (codes "nan") none.1) (rw (not_begun byte text 105 (codes "nf") none.2) (rw (not_begun byte text 110 (codes "an") none.3) refl)))
+quiet_word Quoted byte text quiet = refl
+quiet_word Escaped byte text quiet = refl
+
+quiet_place : (place : Place) (byte : ℕ) → is_quiet place byte ≡ true → place_after place byte ≡ place
+quiet_place Bare byte quiet = rw (four (byte == 34) (byte == 45) (byte == 105) (byte == 110) quiet).0 refl
+quiet_place Quoted byte quiet = let none = two (byte == 34) (byte == 92) quiet in rw (none.0, none.1) refl
+quiet_place Escaped byte quiet = absurd (cc)
+
+module _ (old now whole : List ℕ) (place : Place) where
+  run : (k at to : ℕ) → at + k ≡ to → to ≤ length now → ((i : ℕ) → at ≤ i → i < to → is_quiet place (get_or now i 0) ≡ true)
+      → drop at now ≡ drop at old → whole ≡ take at now ++ written_over 0 place (drop at old)
+      → (whole ≡ take to now ++ written_over 0 place (drop to old)) × (drop to now ≡ drop to old)
+  run zero at to is_to fits quiet rest is =
+      let same : at ≡ to = omega (arith, is_to) in (
+        subst (λ (n : ℕ). whole ≡ take n now ++ written_over 0 place (drop n old)) same is,
+        subst (λ (n : ℕ). drop n now ≡ drop n old) same rest,
+      )
+  run (suc k) at to is_to fits quiet rest is =
+      let inside : at < length now = omega (arith, is_to, fits) in
+      let here = quiet at (omega arith) (omega (arith, is_to)) in
+      let none = ap (λ (t : List ℕ). word_left 0 place t) (drop_more now at 0 inside) ∙ quiet_word place (get_or now at 0) (drop (at + 1) now) here in
+      run k (at + 1) to (omega (arith, is_to)) fits (λ i from before. quiet i (omega (arith, from)) before)
+      (rest_on old now whole at 0 place inside rest is)
+      (keep_turn old now whole at 0 place inside rest is none
+      ∙ ap (λ (p : Place). take (at + 1) now ++ written_over 0 p (drop (at + 1) old)) (quiet_place place (get_or now at 0) here))
+
+  pub run_to : (at to : ℕ) → IsQuietTo now place at to → drop at now ≡ drop at old
+      → whole ≡ take at now ++ written_over 0 place (drop at old)
+      → (whole ≡ take to now ++ written_over 0 place (drop to old)) × (drop to now ≡ drop to old)
+  run_to at to quiet rest is = run (to - at) at to (omega (arith, quiet.behind)) quiet.within quiet.quiet rest is

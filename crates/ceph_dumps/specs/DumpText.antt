@@ -1,6 +1,6 @@
 -- The text that the bytes of a dump are read as.
-use Rattle.std.specs.Prelude.{◌==◌, ◌-◌, Bool, List, [], ◌∷◌, ℕ, Option, codes, length, option_and_then}
-use Rattle.std.specs.Prelude.{take, if◌then◌else◌}
+use Rattle.std.specs.Prelude.{◌≡◌, ◌==◌, ◌-◌, ◌<◌, ◌≤◌, ◌||◌, Bool, false, true, List, [], ◌∷◌, ℕ, Option, codes, length}
+use Rattle.std.specs.Prelude.{not, option_and_then, slice_index, take, if◌then◌else◌}
 use Rattle.std.specs.Str.{bytes_eq}
 use Rattle.json.specs.Json.{Json, document}
 use Rattle.memchr.specs.Find.{OccursAt}
@@ -44,6 +44,18 @@ written_over left place (byte ∷ text) =
     if word_left left place (byte ∷ text) == 0 then byte ∷ written_over 0 (place_after place byte) text
     else over_byte (word_left left place (byte ∷ text) - 1)
     ∷ written_over (word_left left place (byte ∷ text) - 1) place text
+
+-- whether no such word begins with a byte, and the byte after it is at the same place
+abbrev pub is_quiet : Place → ℕ → Bool
+is_quiet Bare byte = not (byte == 34 || byte == 45 || byte == 105 || byte == 110)
+is_quiet Quoted byte = not (byte == 34 || byte == 92)
+is_quiet Escaped byte = false
+
+-- all bytes from one on to before another are
+pub record IsQuietTo (text : List ℕ) (place : Place) (from to : ℕ) : Type 0 where
+  pub behind : from ≤ to
+  pub within : to ≤ length text
+  pub quiet : (at : ℕ) → from ≤ at → at < to → is_quiet place (slice_index text at) ≡ true
 
 -- each byte from 0x80 as a character of its own, and a number in place of each bare word
 abbrev pub dump_text : List ℕ → List ℕ

@@ -1,6 +1,7 @@
 //! Writes blanks and a zero over bare `-inf`, `inf` and `nan`, which Ceph prints where JSON has no number.
-ghost use Rattle.std.specs.Prelude.{◌≡◌, false};
-ghost use Rattle.ceph_dumps.specs.DumpText.{HasNoWord, bare_length, over_byte, word_left, word_length, written_over};
+ghost use Rattle.std.specs.Prelude.{◌≡◌, ◌≤◌, false, length};
+ghost use Rattle.ceph_dumps.specs.DumpText.{HasNoWord, IsQuietTo, bare_length, is_quiet, over_byte};
+ghost use Rattle.ceph_dumps.specs.DumpText.{word_left, word_length, written_over};
 ghost use Rattle.ceph_dumps.specs.declared.bare_words.Place.TheVariants.{Bare};
 
 use memchr::memmem::find;
@@ -86,19 +87,45 @@ pub(crate) fn may_have_words(text: &[u8]) -> bool
     }
 }
 
+/// Whether no word begins with a byte at this place, and the next byte is at the same place.
+fn is_quiet(place: Place, byte: u8) -> bool
+    ensures { result ≡ is_quiet place byte }
+{
+    match place {
+        Place::Bare => !matches!(byte, b'"' | b'-' | b'i' | b'n'),
+        Place::Quoted => !matches!(byte, b'"' | b'\\'),
+        Place::Escaped => false,
+    }
+}
+
+/// Where the quiet bytes from here on end.
+fn quiet_end(text: &[u8], place: Place, from: usize) -> usize
+    requires { from ≤ length text.now }
+    ensures { IsQuietTo text.now place from result }
+{
+    let mut at = from;
+    while at < text.len() && is_quiet(place, text[at]) {
+        at += 1;
+    }
+    at
+}
+
 /// Writes over each bare word outside of strings. No byte is moved, so lines and columns stay.
 pub fn write_over_bare_words(text: &mut [u8])
     ensures { text.new ≡ written_over 0 Bare text.old }
 {
     let (mut place, mut left) = (Place::Bare, 0);
-    for at in 0..text.len() {
+    let mut at = quiet_end(text, place, 0);
+    while at < text.len() {
         let coming = word_left(left, place, &text[at..]);
         if coming == 0 {
             place = place.after(text[at]);
             left = 0;
+            at = quiet_end(text, place, at + 1);
         } else {
             left = coming - 1;
             text[at] = over_byte(left);
+            at += 1;
         }
     }
 }
