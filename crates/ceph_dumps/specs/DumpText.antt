@@ -1,6 +1,6 @@
 -- The text that the bytes of a dump are read as.
-use Rattle.std.specs.Prelude.{◌≡◌, ◌==◌, ◌-◌, ◌<◌, ◌≤◌, ◌||◌, Bool, false, true, List, [], ◌∷◌, ℕ, Option, codes, length}
-use Rattle.std.specs.Prelude.{not, option_and_then, slice_index, take, if◌then◌else◌}
+use Rattle.std.specs.Prelude.{◌≡◌, ◌==◌, ◌-◌, ◌<◌, ◌≤◌, ◌||◌, Bool, false, true, List, []}
+use Rattle.std.specs.Prelude.{◌∷◌, ℕ, Option, codes, length, not, option_and_then, slice_index, take, if◌then◌else◌}
 use Rattle.std.specs.Str.{bytes_eq}
 use Rattle.json.specs.Json.{Json, document}
 use Rattle.memchr.specs.Find.{OccursAt}

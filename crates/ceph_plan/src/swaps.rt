@@ -52,10 +52,12 @@ pub(crate) struct Swap {
     pub first: usize,
 }
 
-/// What two ranks have in each hour of an exchange but for its last part: the rank that gets it, and that which gives it.
+/// What two ranks have in each hour of an exchange but for its last part.
 #[derive(Clone, Copy)]
 struct Sides {
+    /// The rank that gets it.
     gets: [u64; HOURS],
+    /// The rank that gives it.
     gives: [u64; HOURS],
 }
 
