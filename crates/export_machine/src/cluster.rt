@@ -13,7 +13,7 @@ ghost use Rattle.export_protocol.specs.Promises.{Promised, KeepsAuthority};
 ghost use Rattle.export_machine.specs.Kept.{cause_of, addressed, states_of, is_ready};
 
 use crate::records::Records;
-use export_protocol::{Event, ExporterState, ImporterState, JournalEntry, Reply, StepError};
+use export_protocol::{Event, ExporterState, ImporterState, JournalEntry, Message, Reply, StepError};
 use mds_types::{Dir, Order, Rank};
 use std::alloc::{AllocError, Global};
 use std::marker::Model;
@@ -249,6 +249,13 @@ impl Cluster {
         ensures { result ≡ length self.now.world.sent }
     {
         self.records.sent.len() as u32
+    }
+
+    /// A message that was sent.
+    pub fn message(&self, message: u32) -> Option<Message>
+        ensures { result ≡ slice_get self.now.world.sent message }
+    {
+        self.records.sent.get(message as usize).copied()
     }
 
     /// The export that a message is about, and the rank that it is for.

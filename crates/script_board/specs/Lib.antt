@@ -2,6 +2,7 @@ pub mod Board
 pub mod Commands
 pub mod Cost
 pub mod Fault
+pub mod Looks
 pub mod Move
 pub mod Plan
 pub mod PlanCost

@@ -5,9 +5,11 @@
 mod commands;
 mod cost;
 mod dealing;
+pub mod export_fact;
 pub mod fault;
 pub mod laws;
 pub mod load;
+mod looks;
 mod moving;
 pub mod parts;
 pub mod plan;
@@ -17,6 +19,7 @@ mod serve;
 mod stat;
 mod steps;
 
+pub use export_fact::ExportFact;
 pub use fault::Fault;
 pub use load::Load;
 pub use parts::Parts;

@@ -69,6 +69,8 @@ pub data Command : Type 0 where
   Start : ℕ → ℕ → List (List ℕ) → Command
   Begin : ℕ → List ℕ → Command
   Step : NumberedStep → Command
+  Export : ℕ → Command
+  Journal : ℕ → Command
 
 -- what a word and the fields after it spell
 abbrev pub ranks : List (List ℕ) → Option Command
@@ -147,7 +149,21 @@ its_number fields = None
 abbrev pub step_of_number : (ℕ → NumberedStep) → List (List ℕ) → Option Command
 step_of_number step fields = option_map (λ n. Step (step n)) (its_number fields)
 
--- a step of exports, or of a request, that isn't the start of an export
+-- an export to look at
+abbrev pub export : List (List ℕ) → Option Command
+export fields = option_map Export (its_number fields)
+
+-- the journal of a rank
+abbrev pub journal : List (List ℕ) → Option Command
+journal (n ∷ []) = option_map Journal (rank_of n)
+journal fields = None
+
+-- what exports have left, to look at
+abbrev pub look : List ℕ → List (List ℕ) → Option Command
+look word rest =
+    if bytes_eq word (codes "export") then export rest else if bytes_eq word (codes "journal") then journal rest else None
+
+-- a step of exports, or of a request, that isn't the start of an export, or a look at what they have left
 abbrev pub further_step : List ℕ → List (List ℕ) → Option Command
 further_step word rest =
     if bytes_eq word (codes "deliver") then step_of_number Deliver rest
@@ -157,7 +173,7 @@ further_step word rest =
     else if bytes_eq word (codes "ask") then step_of_number Ask rest
     else if bytes_eq word (codes "begin") then begin_request rest
     else if bytes_eq word (codes "end") then step_of_number End rest
-    else None
+    else look word rest
 
 -- a command that has no fields after its word
 abbrev pub alone : Command → List (List ℕ) → Option Command

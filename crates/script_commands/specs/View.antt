@@ -25,6 +25,8 @@ view made.Stat = line.Stat
 view (made.Start export) = line.Start export.from export.to (map (λ p. p.now) export.paths.items)
 view (made.Begin rank path) = line.Begin rank path.now
 view (made.Step step) = line.Step step
+view (made.Export export) = line.Export export
+view (made.Journal rank) = line.Journal rank
 
 abbrev pub asked_view : Asked → line.Asked
 asked_view found.Nothing = line.Nothing

@@ -5,6 +5,7 @@ ghost use Rattle.std.specs.Option.{option_map};
 ghost use Rattle.script_commands.specs.Commands.{alone, command, fields, is_plain, kind_named, kind_of};
 ghost use Rattle.script_commands.specs.Commands.{load, make_dir, mask, pin, weight};
 ghost use Rattle.script_commands.specs.Commands.{begin_request, further_step, its_number, named_way, start};
+ghost use Rattle.script_commands.specs.Commands.{export, journal, look};
 ghost use Rattle.script_commands.specs.Commands.{rank_of, ranks, remove_dir, restart, step_of_number, stop};
 ghost use Rattle.script_commands.specs.View.{view};
 
@@ -54,6 +55,10 @@ pub enum Command<'a> {
     Begin(Rank, &'a str),
     /// A step that a number names.
     Step(NumberedStep),
+    /// What this export is and has left.
+    Export(u32),
+    /// What the journal of a rank has.
+    Journal(Rank),
 }
 
 fn ranks(rest: &[u8]) -> Option<Command<'_>>
@@ -302,7 +307,35 @@ fn end(rest: &[u8]) -> Option<Command<'_>>
     Some(Command::Step(NumberedStep::End(ticket)))
 }
 
-// The step of exports that a word other than `start` and the fields after it spell, if they spell one.
+fn export(rest: &[u8]) -> Option<Command<'_>>
+    ensures { option_map view result ≡ export (fields rest.now) }
+{
+    let number = its_number(rest)?;
+    Some(Command::Export(number))
+}
+
+fn journal(rest: &[u8]) -> Option<Command<'_>>
+    ensures { option_map view result ≡ journal (fields rest.now) }
+{
+    let rank = rank(one_field(rest)?)?;
+    Some(Command::Journal(rank))
+}
+
+// The look at what exports have left that a word and the fields after it spell, if they spell one.
+fn find_look<'a>(word: &[u8], rest: &'a [u8]) -> Option<Command<'a>>
+    ensures { option_map view result ≡ look word.now (fields rest.now) }
+{
+    if word == b"export".as_slice() {
+        export(rest)
+    } else if word == b"journal".as_slice() {
+        journal(rest)
+    } else {
+        None
+    }
+}
+
+// The step of exports that a word other than `start` and the fields after it spell, or the look at what they have left,
+// if they spell one.
 fn find_step<'a>(word: &[u8], rest: &'a [u8]) -> Option<Command<'a>>
     requires { list_all (list_all is_plain) (fields rest.now) ≡ true }
     ensures { option_map view result ≡ further_step word.now (fields rest.now) }
@@ -322,7 +355,7 @@ fn find_step<'a>(word: &[u8], rest: &'a [u8]) -> Option<Command<'a>>
     } else if word == b"end".as_slice() {
         end(rest)
     } else {
-        None
+        find_look(word, rest)
     }
 }
 

@@ -148,7 +148,7 @@ pub struct Form {
     fields: &'static [Field],
 }
 
-const FORMS: [Form; 23] = [
+const FORMS: [Form; 25] = [
     Form {
         word: "ranks",
         fields: &[ACTIVE],
@@ -240,6 +240,14 @@ const FORMS: [Form; 23] = [
     Form {
         word: "end",
         fields: &[TICKET],
+    },
+    Form {
+        word: "export",
+        fields: &[EXPORT],
+    },
+    Form {
+        word: "journal",
+        fields: &[RANK],
     },
 ];
 
