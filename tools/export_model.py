@@ -47,7 +47,7 @@ class Exports:
 
     def __init__(self, named, refuse):
         self.named, self.refuse = named, refuse
-        self.exports, self.sent, self.requests, self.stopped = [], [], [], set()
+        self.exports, self.sent, self.requests, self.stopped, self.delivered = [], [], [], set(), set()
         self.journals = {0: [("Made", 0)]}
 
     def journal(self, rank):
@@ -159,6 +159,7 @@ class Exports:
     def deliver(self, message):
         if message >= len(self.sent):
             self.refuse("24 NoMessage")
+        self.delivered.add(message)
         kind, number = self.sent[message]
         it = self.exports[number]
         is_for_importer = kind in {message for message, _ in AT_IMPORTER}
@@ -214,6 +215,20 @@ class Exports:
                 it.importer = "unknown"
         self.stopped.add(rank)
 
+    # Looks.
+
+    def facts(self, number, path):
+        """An export as it is printed, with the paths of its directories."""
+        it = self.export(number)
+        lines = [f"export {number} from {it.source} to {it.to}", f"exporter {it.exporter}", f"importer {it.importer}"]
+        lines += [f"dir {dir} {path(dir)}" for dir in it.dirs]
+        messages = [(place, kind) for place, (kind, about) in enumerate(self.sent) if about == number]
+        return lines + [f"message {place} {kind} {'delivered' if place in self.delivered else 'sent'}" for place, kind in messages]
+
+    def journal_lines(self, rank, path):
+        entries = [(kind, f"{number} {path(number)}" if kind in ("Made", "Gone") else number) for kind, number in self.journal(rank)]
+        return [f"journal {rank} {kind} {what}" for kind, what in entries]
+
     # A move, in rounds.
 
     def is_settled(self):
@@ -225,6 +240,8 @@ class Exports:
         is_done = word != "aborted"
         self.exports.append(Export(source, to, dirs, *(("done", "imported") if is_done else ("aborted", "unknown"))))
         kinds = "Discover DiscoverAck Prep PrepAck Export ExportAck Finish" if is_done else "Discover Cancel"
+        # where the importer is stopped, no message comes
+        self.delivered |= set(range(len(self.sent), len(self.sent) + len(kinds.split()))) if is_done else set()
         self.sent += [(kind, number) for kind in kinds.split()]
         if is_done:
             self.journal(source).extend([("Exported", number), ("Notified", number)])
@@ -259,7 +276,7 @@ class Exports:
                             self.tried(self.ask, number)
                 for message, it, kind in come:
                     is_for_importer = kind in {message for message, _ in AT_IMPORTER}
-                    if (it.to if is_for_importer else it.source) == rank and it.is_awaited():
+                    if (it.to if is_for_importer else it.source) == rank and rank not in self.stopped and it.is_awaited():
                         self.deliver(message)
                 for number, it in enumerate(self.exports):
                     if it.source == rank and it.exporter == "freezing":

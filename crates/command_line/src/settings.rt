@@ -42,6 +42,8 @@ Commands of a script, one a line:
   ask EXPORT        ask the exporter what became of an export
   begin RANK PATH   begin a request at a rank
   end TICKET        end a request
+  export EXPORT     print an export, with its states and messages
+  journal RANK      print what the journal of a rank has
 
 Exit status:
   0  every line was accepted

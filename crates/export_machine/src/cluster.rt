@@ -13,7 +13,9 @@ ghost use Rattle.export_protocol.specs.Promises.{Promised, KeepsAuthority};
 ghost use Rattle.export_machine.specs.Kept.{cause_of, addressed, states_of, is_ready};
 
 use crate::records::Records;
-use export_protocol::{Event, ExporterState, ImporterState, JournalEntry, Message, Reply, StepError};
+use export_protocol::{
+    Event, ExporterState, ImporterState, JournalEntry, Message, Reply, StepError,
+};
 use mds_types::{Dir, Order, Rank};
 use std::alloc::{AllocError, Global};
 use std::marker::Model;

@@ -28,12 +28,12 @@ abbrev pub message_come : Change → Option ℕ
 message_come (Step (Deliver m)) = Some m
 message_come _ = None
 
-abbrev pub is_number : ℕ → Option ℕ → Bool
-is_number m None = false
-is_number m (Some n) = n == m
+abbrev pub is_that : ℕ → Option ℕ → Bool
+is_that m None = false
+is_that m (Some n) = n == m
 
 abbrev pub brings : ℕ → Entry → Bool
-brings m e = is_number m (message_come e.change)
+brings m e = is_that m (message_come e.change)
 
 -- whether a message was delivered, even if it did nothing then
 abbrev pub was_delivered : World → ℕ → Bool

@@ -1,10 +1,10 @@
 //! The commands `export` and `journal`: what exports have left.
 ghost use Rattle.std.specs.Prelude.{◌≡◌, ◌<◌, ◌++◌, ◌||◌, ℕ, All, IfErr, IfOk, OnOk, Ok, false, length, map};
 ghost use Rattle.std.specs.Prelude.{nat_lt, slice_index_or};
-ghost use Rattle.export_protocol.specs.Authority.{exporter_of, importer_of, order_in};
+ghost use Rattle.export_protocol.specs.Authority.{order_in};
 ghost use Rattle.mds_board.specs.Stored.{shown_entry};
 ghost use Rattle.script_board.specs.Fault.{IsDue};
-ghost use Rattle.script_board.specs.Looks.{export_facts, facts_of, is_message_of, is_number, journal_entries};
+ghost use Rattle.script_board.specs.Looks.{export_facts, facts_of, is_that, journal_entries};
 ghost use Rattle.script_board.specs.Looks.{message_come, message_fact, messages_of, sent_message, was_delivered};
 
 use crate::export_fact::ExportFact;
@@ -12,8 +12,8 @@ use crate::fault::Fault;
 use crate::script_board::ScriptBoard;
 use authority_map::Publisher;
 use export_protocol::{Event, JournalEntry, Message, StepError};
-use mds_board::{BoardError, Change, Shown};
-use mds_types::{Order, Rank};
+use mds_board::{Board, BoardError, Change, Shown};
+use mds_types::{Dir, Order, Rank};
 use proof_names::Naming;
 use std::alloc::{AllocError, Global};
 
@@ -34,10 +34,10 @@ fn message_come(entry: &Shown<'_>) -> Option<u32>
 }
 
 // Marks the message, if there is one and it has a mark.
-fn mark(marks: &mut [bool], message: Option<u32>)
-    ensures size { length marks.new ≡ length marks.old }
-    ensures marked { (m : ℕ) → m < length marks.old
-        → slice_index_or marks.new m false ≡ (slice_index_or marks.old m false || is_number m message) }
+fn mark(marks: &mut Vec<bool>, message: Option<u32>)
+    ensures size { length marks.new.items ≡ length marks.old.items }
+    ensures marked { (m : ℕ) → m < length marks.old.items
+        → slice_index_or marks.new.items m false ≡ (slice_index_or marks.old.items m false || is_that m message) }
 {
     if let Some(message) = message {
         let place = message as usize;
@@ -45,6 +45,115 @@ fn mark(marks: &mut [bool], message: Option<u32>)
             marks[place] = true;
         }
     }
+}
+
+// For each message, whether it was delivered.
+fn delivered<J: Naming, M: Publisher<J>>(
+    alloc: Global,
+    board: &Board<J, M>,
+) -> Result<Vec<bool>, AllocError>
+    ensures size { IfOk result (λ marks. length marks.items ≡ length board.now.state.cluster.sent) }
+    ensures marks { IfOk result (λ marks. (m : ℕ) → m < length board.now.state.cluster.sent
+        → slice_index_or marks.items m false ≡ was_delivered board.now m) }
+{
+    let mut marks = vec![in alloc; false; board.cluster().sent() as usize]?;
+    let history = board.history();
+    for number in 0..history.len() {
+        mark(&mut marks, message_come(&history.at(number)));
+    }
+    Ok(marks)
+}
+
+// The message of a number.
+fn sent_message<J: Naming, M: Publisher<J>>(board: &Board<J, M>, message: u32) -> Message
+    ensures { result ≡ sent_message board.now message }
+{
+    match board.cluster().message(message) {
+        Some(message) => message,
+        None => Message::Discover(0),
+    }
+}
+
+// The numbers of the messages about an export, rising.
+fn messages_of<J: Naming, M: Publisher<J>>(
+    alloc: Global,
+    board: &Board<J, M>,
+    export: u32,
+) -> Result<Vec<u32>, AllocError>
+    ensures messages { IfOk result (λ found. found.items ≡ messages_of board.now export) }
+    ensures sent { IfOk result (λ found. All (λ m. m < length board.now.state.cluster.sent) found.items) }
+{
+    let mut found = Vec::new(alloc);
+    for message in 0..board.cluster().sent() {
+        if sent_message(board, message).export() == export {
+            found.push(message)?;
+        }
+    }
+    Ok(found)
+}
+
+// Adds what there is to say of some messages.
+fn add_messages<J: Naming, M: Publisher<J>>(
+    board: &Board<J, M>,
+    messages: &[u32],
+    delivered: &[bool],
+    facts: &mut Vec<ExportFact>,
+) -> Result<(), AllocError>
+    requires sent { All (λ m. m < length board.now.state.cluster.sent) messages.now }
+    requires size { length delivered.now ≡ length board.now.state.cluster.sent }
+    requires marks { (m : ℕ) → m < length board.now.state.cluster.sent
+        → slice_index_or delivered.now m false ≡ was_delivered board.now m }
+    ensures { OnOk result (facts.new.items ≡ facts.old.items ++ map (message_fact board.now) messages.now) }
+{
+    for message in messages {
+        let kind = sent_message(board, *message);
+        let is_delivered = delivered[*message as usize];
+        facts.push(ExportFact::Sent(*message, kind, is_delivered))?;
+    }
+    Ok(())
+}
+
+// Adds that an export moves these directories.
+fn add_dirs(dirs: &[Dir], facts: &mut Vec<ExportFact>) -> Result<(), AllocError>
+    ensures { OnOk result (facts.new.items ≡ facts.old.items ++ map ExportFact.Moves dirs.now) }
+{
+    for dir in dirs {
+        facts.push(ExportFact::Moves(*dir))?;
+    }
+    Ok(())
+}
+
+// What there is to say of an export, which moves what this order says.
+fn facts_of<J: Naming, M: Publisher<J>>(
+    alloc: Global,
+    board: &Board<J, M>,
+    export: u32,
+    order: &Order,
+) -> Result<Vec<ExportFact>, AllocError>
+    requires there { export < length board.now.state.cluster.orders }
+    requires order { order.now ≡ order_in board.now.state.cluster.orders export }
+    ensures { IfOk result (λ facts. facts.items ≡ facts_of board.now export) }
+{
+    let Some((exporter, importer)) = board.cluster().states(export) else {
+        unreachable!()
+    };
+    let messages = messages_of(alloc, board, export)?;
+    let marks = delivered(alloc, board)?;
+    let mut facts = Vec::new(alloc);
+    facts.push(ExportFact::Way(export, order.from, order.to))?;
+    facts.push(ExportFact::Exporter(exporter))?;
+    facts.push(ExportFact::Importer(importer))?;
+    add_dirs(order.dirs.as_slice(), &mut facts)?;
+    add_messages(board, &messages, &marks, &mut facts)?;
+    Ok(facts)
+}
+
+// Whether a rank is active.
+fn has_rank<J: Naming, M: Publisher<J>>(board: &Board<J, M>, rank: Rank) -> bool
+    ensures { result ≡ nat_lt rank board.now.state.cluster.ranks }
+{
+    board.promises();
+    rank.number() < board.pins().active()
 }
 
 impl<J: Naming, M: Publisher<J>> ScriptBoard<J, M> {
@@ -56,107 +165,8 @@ impl<J: Naming, M: Publisher<J>> ScriptBoard<J, M> {
         let Some(order) = self.board.cluster().export(export) else {
             return Err(Fault::from(BoardError::Step(StepError::NoExport)));
         };
-        let facts = self.list_facts(alloc, export, order)?;
+        let facts = facts_of(alloc, &self.board, export, order)?;
         Ok(facts)
-    }
-
-    // What there is to say of an export that moves what this order says.
-    fn list_facts(
-        &self,
-        alloc: Global,
-        export: u32,
-        order: &Order,
-    ) -> Result<Vec<ExportFact>, AllocError>
-        requires there { export < length self.now.world.state.cluster.orders }
-        requires order { order.now ≡ order_in self.now.world.state.cluster.orders export }
-        ensures { IfOk result (λ facts. facts.items ≡ facts_of self.now.world export) }
-    {
-        let Some((exporter, importer)) = self.board.cluster().states(export) else {
-            unreachable!()
-        };
-        let messages = self.messages_of(alloc, export)?;
-        let delivered = self.delivered(alloc)?;
-        let mut facts = Vec::new(alloc);
-        facts.push(ExportFact::Way(export, order.from, order.to))?;
-        facts.push(ExportFact::Exporter(exporter))?;
-        facts.push(ExportFact::Importer(importer))?;
-        for dir in order.dirs.as_slice() {
-            facts.push(ExportFact::Moves(*dir))?;
-        }
-        self.add_messages(&messages, &delivered, &mut facts)?;
-        Ok(facts)
-    }
-
-    // The message of a number.
-    fn sent_message(&self, message: u32) -> Message
-        ensures { result ≡ sent_message self.now.world message }
-    {
-        match self.board.cluster().message(message) {
-            Some(message) => message,
-            None => Message::Discover(0),
-        }
-    }
-
-    fn is_message_of(&self, export: u32, message: u32) -> bool
-        ensures { result ≡ is_message_of self.now.world export message }
-    {
-        self.sent_message(message).export() == export
-    }
-
-    // The numbers of the messages about an export, rising.
-    fn messages_of(&self, alloc: Global, export: u32) -> Result<Vec<u32>, AllocError>
-        ensures messages { IfOk result (λ found. found.items ≡ messages_of self.now.world export) }
-        ensures sent { IfOk result (λ found. All (λ m. m < length self.now.world.state.cluster.sent) found.items) }
-    {
-        let mut found = Vec::new(alloc);
-        for message in 0..self.board.cluster().sent() {
-            if self.is_message_of(export, message) {
-                found.push(message)?;
-            }
-        }
-        Ok(found)
-    }
-
-    // For each message, whether it was delivered.
-    fn delivered(&self, alloc: Global) -> Result<Vec<bool>, AllocError>
-        ensures size { IfOk result (λ marks. length marks.items ≡ length self.now.world.state.cluster.sent) }
-        ensures marks { IfOk result (λ marks. (m : ℕ) → m < length self.now.world.state.cluster.sent
-            → slice_index_or marks.items m false ≡ was_delivered self.now.world m) }
-    {
-        let mut marks = vec![in alloc; false; self.board.cluster().sent() as usize]?;
-        let history = self.board.history();
-        for number in 0..history.len() {
-            mark(&mut marks, message_come(&history.at(number)));
-        }
-        Ok(marks)
-    }
-
-    // Adds what there is to say of some messages.
-    fn add_messages(
-        &self,
-        messages: &[u32],
-        delivered: &[bool],
-        facts: &mut Vec<ExportFact>,
-    ) -> Result<(), AllocError>
-        requires sent { All (λ m. m < length self.now.world.state.cluster.sent) messages.now }
-        requires size { length delivered.now ≡ length self.now.world.state.cluster.sent }
-        requires marks { (m : ℕ) → m < length self.now.world.state.cluster.sent
-            → slice_index_or delivered.now m false ≡ was_delivered self.now.world m }
-        ensures { OnOk result (facts.new.items ≡ facts.old.items ++ map (message_fact self.now.world) messages.now) }
-    {
-        for message in messages {
-            let kind = self.sent_message(*message);
-            facts.push(ExportFact::Sent(*message, kind, delivered[*message as usize]))?;
-        }
-        Ok(())
-    }
-
-    // Whether a rank is active.
-    fn has_rank(&self, rank: Rank) -> bool
-        ensures { result ≡ nat_lt rank self.now.world.state.cluster.ranks }
-    {
-        self.board.promises();
-        rank.number() < self.board.pins().active()
     }
 
     /// The journal of an active rank, the oldest entry first.
@@ -164,7 +174,7 @@ impl<J: Naming, M: Publisher<J>> ScriptBoard<J, M> {
         ensures done { IfOk result (λ entries. journal_entries self.now rank ≡ Ok entries.items) }
         ensures fault { IfErr result (IsDue (journal_entries self.now rank)) }
     {
-        if !self.has_rank(rank) {
+        if !has_rank(&self.board, rank) {
             return Err(Fault::from(BoardError::Step(StepError::NoRank)));
         }
         let entries = self.board.cluster().journal(rank).to_vec(alloc)?;

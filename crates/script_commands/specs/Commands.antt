@@ -161,7 +161,9 @@ journal fields = None
 -- what exports have left, to look at
 abbrev pub look : List ℕ → List (List ℕ) → Option Command
 look word rest =
-    if bytes_eq word (codes "export") then export rest else if bytes_eq word (codes "journal") then journal rest else None
+    if bytes_eq word (codes "export") then export rest
+    else if bytes_eq word (codes "journal") then journal rest
+    else None
 
 -- a step of exports, or of a request, that isn't the start of an export, or a look at what they have left
 abbrev pub further_step : List ℕ → List (List ℕ) → Option Command

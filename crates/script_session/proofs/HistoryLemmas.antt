@@ -134,6 +134,8 @@ does_longer b line.Stat p ample new h = same_longer b new h.2
 does_longer b (line.Start from to paths) p ample new h = from_start b from to paths (h.0, new) h.1
 does_longer b (line.Begin rank path) p ample new h = from_begin b rank path (h.0, new) h.1
 does_longer b (line.Step step) p ample new h = from_step b (event_of step) (h.0, new) h.1
+does_longer b (line.Export x) p ample new h = same_longer b new h.4
+does_longer b (line.Journal rank) p ample new h = same_longer b new h.4
 
 -- a session's board goes on
 abbrev OnFrom : SessionData → SessionData → Type 0

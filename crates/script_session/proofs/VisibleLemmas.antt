@@ -22,10 +22,12 @@ use Rattle.script_board.specs.Board.{BoardData, publish}
 use Rattle.script_board.specs.Commands.{◌>>=◌, changed, find, last_slash, make_below, masked, parent_path, replanned}
 use Rattle.script_board.specs.Cost.{cost, top, tops}
 use Rattle.script_board.specs.Fault.{unless}
+use Rattle.script_board.specs.Looks.{export_facts, journal_entries}
 use Rattle.script_board.specs.Steps.{begin_at, find_all, start, take_step, with_request}
 use Rattle.script_session.specs.Printed.{Printed, joined, only_lines}
 use Rattle.script_session.specs.Does.{Changes, Meaning, Moves, Plans, Prints, Reports, Serves, Steps, costed, is_function, meaning}
 use Rattle.script_session.specs.Outcome.{LineOutcome, Outcome, answer_to, held, is_determined, line_outcome, outcome, outcome_at, printed, replied, silent, told}
+use Rattle.script_session.specs.Looks.{entry_line, fact_line, listed}
 use Rattle.script_session.specs.Steps.{event_of, step_line}
 use Rattle.script_session.specs.Session.{IsTold, SessionData, answers, beginning, at_beginning, done_answer, fault_answer, published, settled}
 use Rattle.script_session.specs.Visible.{NoneSaysMemory, SaysMemory, ignores_map, is_visible, tells_all}
@@ -132,6 +134,10 @@ module _ (b : BoardData) (ops : List Operation) where
   same_tops [] = refl
   same_tops (path ∷ paths) = ap (λ (r : Result (List ℕ) Fault). top b path >>= λ d. r >>= λ found. Ok (d ∷ found)) (same_tops paths)
 
+  like_printed : (r : Result (List (List ℕ)) Fault) → LikeOutcome (printed b r) (printed (shifted b ops) r)
+  like_printed (Ok lines) = (refl, (ops, refl))
+  like_printed (Err e) = refl
+
   like_costed : (r : Result (List Part) Fault) → LikeOutcome (printed b (costed b r)) (printed (shifted b ops) (costed (shifted b ops) r))
   like_costed (Ok found) = (refl, (ops, refl))
   like_costed (Err e) = refl
@@ -159,6 +165,8 @@ module _ (b : BoardData) (ops : List Operation) where
   like_on_board (line.Start from to paths) sure = like_replied _ _ (like_start from to paths)
   like_on_board (line.Begin rank path) sure = like_replied _ _ (like_begin rank path)
   like_on_board (line.Step step) sure = like_replied _ _ (like_step (event_of step))
+  like_on_board (line.Export x) sure = like_printed (listed (fact_line b) (export_facts b x))
+  like_on_board (line.Journal rank) sure = like_printed (listed (entry_line b rank) (journal_entries b rank))
 
 -- the sessions differ at most in how much of the map is published
 abbrev LikeBoard : Option BoardData → Option BoardData → Type 0

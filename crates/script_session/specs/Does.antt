@@ -13,11 +13,13 @@ use Rattle.script_board.specs.Board.{BoardData}
 use Rattle.script_board.specs.Commands.{load, make_dir, remove_dir, restart, set_mask, set_pin, set_weights}
 use Rattle.script_board.specs.Commands.{stop, tick}
 use Rattle.script_board.specs.Cost.{cost}
+use Rattle.script_board.specs.Looks.{export_facts, journal_entries}
 use Rattle.script_board.specs.Move.{IsMoved}
 use Rattle.script_board.specs.Plan.{IsPlanned, plan_due}
 use Rattle.script_board.specs.Serve.{IsGone, is_ample}
 use Rattle.script_board.specs.Steps.{begin_at, start, take_step}
 use Rattle.script_session.specs.Cost.{cost_lines}
+use Rattle.script_session.specs.Looks.{entry_line, fact_line, listed}
 use Rattle.script_session.specs.Move.{move_lines}
 use Rattle.script_session.specs.Plan.{parts_in_force, plan_lines}
 use Rattle.script_session.specs.Stat.{stat_lines}
@@ -65,6 +67,8 @@ meaning line.Stat = Reports stat_lines
 meaning (line.Start from to paths) = Steps (λ b. start b from to paths)
 meaning (line.Begin rank path) = Steps (λ b. begin_at b rank path)
 meaning (line.Step step) = Steps (λ b. take_step b (event_of step))
+meaning (line.Export x) = Prints (λ b. listed (fact_line b) (export_facts b x))
+meaning (line.Journal rank) = Prints (λ b. listed (entry_line b rank) (journal_entries b rank))
 
 -- why a board refuses what is meant
 abbrev pub cause : BoardData → Meaning → Option Fault

@@ -4,6 +4,7 @@ pub mod Done
 pub mod Ending
 pub mod Fault
 pub mod History
+pub mod Looks
 pub mod Move
 pub mod Outcome
 pub mod Plan

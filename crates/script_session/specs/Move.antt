@@ -38,11 +38,12 @@ abbrev pub path_if : Bool → List (Option Entry) → ℕ → List ℕ
 path_if true entries d = path_of entries d
 path_if false entries d = codes "-"
 
--- the path of an order's top, as long as it is there
+-- the path of a directory, as long as it is there
+abbrev pub dir_path : BoardData → ℕ → List ℕ
+dir_path b d = path_if (is_there b.world.state.directories.entries d) b.world.state.directories.entries d
+
 abbrev pub top_path : BoardData → Order → List ℕ
-top_path b order =
-    path_if (is_there b.world.state.directories.entries (top_of order)) b.world.state.directories.entries
-    (top_of order)
+top_path b order = dir_path b (top_of order)
 
 -- from where and to where the directories below a path go
 abbrev pub way_text : List ℕ → ℕ → ℕ → List ℕ

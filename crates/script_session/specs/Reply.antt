@@ -8,7 +8,9 @@ use Rattle.script_board.specs.Cost.{AreThere}
 use Rattle.script_board.specs.Stat.{directories}
 use Rattle.script_session.specs.declared.reply.CommandReply.{CommandReply}
 use Rattle.script_session.specs.declared.reply.CommandReply.TheVariants.{Nothing, Cost, Plan, Move, Stat, Step}
+use Rattle.script_session.specs.declared.reply.CommandReply.TheVariants.{Export, Journal}
 use Rattle.script_session.specs.Cost.{cost_lines}
+use Rattle.script_session.specs.Looks.{entry_line, fact_line}
 use Rattle.script_session.specs.Move.{move_lines}
 use Rattle.script_session.specs.Plan.{plan_lines}
 use Rattle.script_session.specs.Stat.{cluster_line, dir_line}
@@ -21,6 +23,8 @@ reply_lines b (Plan parts) = plan_lines b parts.items
 reply_lines b (Move orders outcomes) = move_lines b orders.items outcomes.items
 reply_lines b (Stat dirs) = cluster_line b ∷ map (dir_line b) dirs.items
 reply_lines b (Step reply) = step_line reply ∷ []
+reply_lines b (Export facts) = map (fact_line b) facts.items
+reply_lines b (Journal rank entries) = map (entry_line b rank) entries.items
 
 -- the directories of the reply are there, a plan is in force if the reply shows one, and each order has an outcome
 abbrev pub IsPrintable : BoardData → CommandReply → Type 0
@@ -34,3 +38,5 @@ IsPrintable b (Stat dirs) = (dirs.items ≡ directories b.world.state.directorie
     × All (λ dir. is_there b.world.state.directories.entries dir ≡ true) dirs.items
     × All (λ dir. dir < b.world.state.directories.limit) dirs.items
 IsPrintable b (Step reply) = Unit {0}
+IsPrintable b (Export facts) = Unit {0}
+IsPrintable b (Journal rank entries) = Unit {0}

@@ -108,6 +108,14 @@ pub fn change<J: Naming, M: Publisher<J>, R: Threads + Sync>(
         Command::Step(step) => {
             return Ok(Done::Lines(CommandReply::Step(board.step(alloc, event_of(step))?)));
         }
+        Command::Export(export) => {
+            let facts = board.export_facts(alloc, export)?;
+            return Ok(Done::Lines(CommandReply::Export(facts)));
+        }
+        Command::Journal(rank) => {
+            let entries = board.journal_entries(alloc, rank)?;
+            return Ok(Done::Lines(CommandReply::Journal(rank, entries)));
+        }
         Command::Go | Command::Move => unreachable!(),
     }
     Ok(Done::Lines(CommandReply::Nothing))

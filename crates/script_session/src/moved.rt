@@ -1,6 +1,6 @@
 //! The lines of `move`. Each is made in a text, in place of what it held.
 ghost use Rattle.std.specs.Prelude.{◌≡◌, OnOk, string_bytes};
-ghost use Rattle.script_session.specs.Move.{all_inodes, export_line, export_text, move_line};
+ghost use Rattle.script_session.specs.Move.{all_inodes, dir_path, export_line, export_text, move_line};
 ghost use Rattle.script_session.specs.Move.{top_of, top_path, way_text, word};
 
 use authority_map::Publisher;
@@ -54,6 +54,23 @@ fn all_inodes(tree: &Tree, dirs: &[Dir]) -> u128
     sum
 }
 
+/// The path of a directory, or `-` where it is no longer there.
+pub(crate) fn dir_path<J: Naming, M: Publisher<J>>(
+    alloc: Global,
+    board: &ScriptBoard<J, M>,
+    dir: Dir,
+    text: &mut String,
+) -> Result<(), AllocError>
+    ensures { OnOk result (string_bytes text.new ≡ dir_path board.now dir) }
+{
+    if board.contains(dir) {
+        board.write_path(alloc, dir, text)
+    } else {
+        text.clear();
+        text.push_str("-")
+    }
+}
+
 // The path of an order's top, as long as it is there.
 fn top_path<J: Naming, M: Publisher<J>>(
     alloc: Global,
@@ -63,13 +80,7 @@ fn top_path<J: Naming, M: Publisher<J>>(
 ) -> Result<(), AllocError>
     ensures { OnOk result (string_bytes text.new ≡ top_path board.now order.now) }
 {
-    let top = top_of(order);
-    if board.contains(top) {
-        board.write_path(alloc, top, text)
-    } else {
-        text.clear();
-        text.push_str("-")
-    }
+    dir_path(alloc, board, top_of(order), text)
 }
 
 pub(crate) fn export_line<J: Naming, M: Publisher<J>>(

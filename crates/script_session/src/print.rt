@@ -10,6 +10,7 @@ ghost use Rattle.script_session.specs.Plan.{plan_line};
 ghost use Rattle.script_session.specs.Reply.{IsPrintable, reply_lines};
 
 use crate::cost::{cost_line, part_line};
+use crate::looks::{entry_line, fact_line};
 use crate::moved::{export_line, move_line};
 use crate::page::Page;
 use crate::plan::{plan_line, plan_part_line};
@@ -146,6 +147,10 @@ fn make_line<J: Naming, M: Publisher<J>>(
             _ => dir_line(alloc, board, dirs[index - 1], field, line),
         },
         CommandReply::Step(reply) => step_line(*reply, line),
+        CommandReply::Export(facts) => fact_line(alloc, board, facts[index], field, line),
+        CommandReply::Journal(rank, entries) => {
+            entry_line(alloc, board, *rank, entries[index], field, line)
+        }
     }
 }
 

@@ -3,9 +3,10 @@ ghost use Rattle.std.specs.Prelude.{◌≡◌, length};
 ghost use Rattle.script_board.specs.Board.{BoardData};
 ghost use Rattle.script_session.specs.Reply.{IsPrintable, reply_lines};
 
-use export_protocol::Reply;
+use export_protocol::{JournalEntry, Reply};
 use export_rounds::Outcome;
-use mds_types::{Dir, Order};
+use mds_types::{Dir, Order, Rank};
+use script_board::ExportFact;
 use tree_parts::{Part, PlanPart};
 
 /// What a command prints, from which its lines are made one by one as they are written.
@@ -23,6 +24,10 @@ pub enum CommandReply {
     Stat(Vec<Dir>),
     /// The reply to a step of exports or requests.
     Step(Reply),
+    /// What there is to say of an export.
+    Export(Vec<ExportFact>),
+    /// The entries of a rank's journal.
+    Journal(Rank, Vec<JournalEntry>),
 }
 
 impl CommandReply {
@@ -37,6 +42,8 @@ impl CommandReply {
             CommandReply::Move(orders, _) => orders.len() + 1,
             CommandReply::Stat(dirs) => dirs.len() + 1,
             CommandReply::Step(_) => 1,
+            CommandReply::Export(facts) => facts.len(),
+            CommandReply::Journal(_, entries) => entries.len(),
         }
     }
 }

@@ -78,3 +78,20 @@ returns-in_default-index-3-clause-line g c =
     let dirs = c.in-Stat.dirs.items in
     let inside : c.args.index < length (cluster_line b ∷ map (dir_line b) dirs) = rw (c.in-Stat.is) at c.requires.inside in
     rw (c.in-Stat.is) (IfOk-weaker c.dir_line.result _ _ (λ line e. e ∙ (ap (dir_line b) c.index-in_default-index-3.ensures ∙ nth_line (cluster_line b) (dir_line b) dirs c.args.index _ some inside)) c.dir_line.ensures.line)
+
+pub returns-in-Export-clause-line : goal.returns-in-Export-clause-line
+returns-in-Export-clause-line g c =
+    let b : BoardData = c.args.board.now in
+    let facts = c.in-Export.facts.items in
+    let inside : c.args.index < length (map (fact_line b) facts) = rw (c.in-Export.is) at c.requires.inside in
+    let below : c.args.index < length facts = omega (arith, inside, length-map facts (fact_line b)) in
+    rw (c.in-Export.is) (IfOk-weaker c.fact_line.result _ _ (λ line e. e ∙ (ap (fact_line b) c.index-in-Export.ensures ∙ sym (get_or-map (fact_line b) facts c.args.index _ [] below))) c.fact_line.ensures)
+
+pub returns-in-Journal-clause-line : goal.returns-in-Journal-clause-line
+returns-in-Journal-clause-line g c =
+    let b : BoardData = c.args.board.now in
+    let entries = c.in-Journal.entries.items in
+    let rank : ℕ = c.in-Journal.rank in
+    let inside : c.args.index < length (map (entry_line b rank) entries) = rw (c.in-Journal.is) at c.requires.inside in
+    let below : c.args.index < length entries = omega (arith, inside, length-map entries (entry_line b rank)) in
+    rw (c.in-Journal.is) (IfOk-weaker c.entry_line.result _ _ (λ line e. e ∙ (ap (entry_line b rank) c.index-in-Journal.ensures ∙ sym (get_or-map (entry_line b rank) entries c.args.index _ [] below))) c.entry_line.ensures)
