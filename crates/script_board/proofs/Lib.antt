@@ -2,5 +2,6 @@ pub mod BoardLemmas
 pub mod CostLemmas
 pub mod CostOfPlan
 pub mod DealingLemmas
+pub mod LookLemmas
 pub mod SlashLemmas
 pub mod StepLemmas

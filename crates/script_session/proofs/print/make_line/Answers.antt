@@ -1,8 +1,9 @@
-use Rattle.std.proofs.Common.{◌≡◌, ◌∙◌, ◌<◌, ◌-◌, ◌∷◌, ℕ, ap, arith, get_or, length, map, sym}
-use Rattle.std.proofs.lemmas.List.{length-map}
+use Rattle.std.proofs.Common.{◌≡◌, ◌∙◌, ◌<◌, ◌-◌, [], ◌∷◌, ℕ, ap, arith, get_or, length, map, sym}
+use Rattle.std.proofs.lemmas.List.{get_or-map, length-map}
 use Rattle.std.proofs.lemmas.Result.{IfOk-weaker}
 use Rattle.script_board.specs.Board.{BoardData}
 use Rattle.script_session.specs.Cost.{cost_line, part_line}
+use Rattle.script_session.specs.Looks.{entry_line, fact_line}
 use Rattle.script_session.specs.Move.{export_line, move_line, pairs}
 use Rattle.script_session.specs.Plan.{plan_line, plan_part_line}
 use Rattle.script_session.specs.Stat.{cluster_line, dir_line}
