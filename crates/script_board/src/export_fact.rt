@@ -4,7 +4,7 @@ use export_protocol::{ExporterState, ImporterState, Message};
 use mds_types::{Dir, Rank};
 
 /// One thing to say of an export.
-#[derive(Clone, Copy, Debug, PartialEq, Eq)]
+#[derive(Clone, Copy)]
 pub enum ExportFact {
     /// The export of this number goes from one rank, its exporter, to another, its importer.
     Way(u32, Rank, Rank),
