@@ -6,7 +6,7 @@ use Rattle.std.proofs.lemmas.Grind.{drop_more_same}
 use Rattle.std.proofs.lemmas.Slice.Eq.{bytes_eq-Decides}
 use Rattle.std.proofs.lemmas.List.{drop_more, length-set, take-set-le, take_more}
 use Rattle.memchr.specs.Find.{FindsNeedle, OccursAt}
-use Rattle.ceph_dumps.specs.DumpText.{IsQuietTo, begins_with, is_quiet, over_byte, word_left, written_over}
+use Rattle.ceph_dumps.specs.DumpText.{IsQuietTo, begins_with, is_quiet_byte, over_byte, word_left, written_over}
 use Rattle.ceph_dumps.specs.KeyPath.{place_after}
 use Rattle.ceph_dumps.specs.declared.bare_words.Place.{Place}
 use Rattle.ceph_dumps.specs.declared.bare_words.Place.TheVariants.{Bare, Escaped, Quoted}
@@ -88,7 +88,7 @@ not_begun byte text first others other = by_cases (begins_with (byte ∷ text) (
       let same : byte ≡ first = ap (λ (t : List ℕ). get_or t 0 0) ((bytes_eq-Decides (take (length (first ∷ others)) (byte ∷ text)) (first ∷ others)).0 e) in
       absurd (true≢false (sym (eq-eqb byte first same) ∙ other))
 
-quiet_word : (place : Place) (byte : ℕ) (text : List ℕ) → is_quiet place byte ≡ true → word_left 0 place (byte ∷ text) ≡ 0
+quiet_word : (place : Place) (byte : ℕ) (text : List ℕ) → is_quiet_byte place byte ≡ true → word_left 0 place (byte ∷ text) ≡ 0
 quiet_word Bare byte text quiet =
     let none = four (byte == 34) (byte == 45) (byte == 105) (byte == 110) quiet in
     rw (not_begun byte text 45 (codes "inf") none.1)
@@ -96,13 +96,13 @@ quiet_word Bare byte text quiet =
 quiet_word Quoted byte text quiet = refl
 quiet_word Escaped byte text quiet = refl
 
-quiet_place : (place : Place) (byte : ℕ) → is_quiet place byte ≡ true → place_after place byte ≡ place
+quiet_place : (place : Place) (byte : ℕ) → is_quiet_byte place byte ≡ true → place_after place byte ≡ place
 quiet_place Bare byte quiet = rw (four (byte == 34) (byte == 45) (byte == 105) (byte == 110) quiet).0 refl
 quiet_place Quoted byte quiet = let none = two (byte == 34) (byte == 92) quiet in rw (none.0, none.1) refl
 quiet_place Escaped byte quiet = absurd (cc)
 
 module _ (old now whole : List ℕ) (place : Place) where
-  run : (k at to : ℕ) → at + k ≡ to → to ≤ length now → ((i : ℕ) → at ≤ i → i < to → is_quiet place (get_or now i 0) ≡ true)
+  run : (k at to : ℕ) → at + k ≡ to → to ≤ length now → ((i : ℕ) → at ≤ i → i < to → is_quiet_byte place (get_or now i 0) ≡ true)
       → drop at now ≡ drop at old → whole ≡ take at now ++ written_over 0 place (drop at old)
       → (whole ≡ take to now ++ written_over 0 place (drop to old)) × (drop to now ≡ drop to old)
   run zero at to is_to fits quiet rest is =

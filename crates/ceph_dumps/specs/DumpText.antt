@@ -46,16 +46,16 @@ written_over left place (byte ∷ text) =
     ∷ written_over (word_left left place (byte ∷ text) - 1) place text
 
 -- whether no such word begins with a byte, and the byte after it is at the same place
-abbrev pub is_quiet : Place → ℕ → Bool
-is_quiet Bare byte = not (byte == 34 || byte == 45 || byte == 105 || byte == 110)
-is_quiet Quoted byte = not (byte == 34 || byte == 92)
-is_quiet Escaped byte = false
+abbrev pub is_quiet_byte : Place → ℕ → Bool
+is_quiet_byte Bare byte = not (byte == 34 || byte == 45 || byte == 105 || byte == 110)
+is_quiet_byte Quoted byte = not (byte == 34 || byte == 92)
+is_quiet_byte Escaped byte = false
 
 -- all bytes from one on to before another are
 pub record IsQuietTo (text : List ℕ) (place : Place) (from to : ℕ) : Type 0 where
   pub behind : from ≤ to
   pub within : to ≤ length text
-  pub quiet : (at : ℕ) → from ≤ at → at < to → is_quiet place (slice_index text at) ≡ true
+  pub quiet : (at : ℕ) → from ≤ at → at < to → is_quiet_byte place (slice_index text at) ≡ true
 
 -- each byte from 0x80 as a character of its own, and a number in place of each bare word
 abbrev pub dump_text : List ℕ → List ℕ

@@ -1,6 +1,6 @@
 //! Writes blanks and a zero over bare `-inf`, `inf` and `nan`, which Ceph prints where JSON has no number.
 ghost use Rattle.std.specs.Prelude.{◌≡◌, ◌≤◌, false, length};
-ghost use Rattle.ceph_dumps.specs.DumpText.{HasNoWord, IsQuietTo, bare_length, is_quiet, over_byte};
+ghost use Rattle.ceph_dumps.specs.DumpText.{HasNoWord, IsQuietTo, bare_length, is_quiet_byte, over_byte};
 ghost use Rattle.ceph_dumps.specs.DumpText.{word_left, word_length, written_over};
 ghost use Rattle.ceph_dumps.specs.declared.bare_words.Place.TheVariants.{Bare};
 
@@ -88,8 +88,8 @@ pub(crate) fn may_have_words(text: &[u8]) -> bool
 }
 
 /// Whether no word begins with a byte at this place, and the next byte is at the same place.
-fn is_quiet(place: Place, byte: u8) -> bool
-    ensures { result ≡ is_quiet place byte }
+fn is_quiet_byte(place: Place, byte: u8) -> bool
+    ensures { result ≡ is_quiet_byte place byte }
 {
     match place {
         Place::Bare => !matches!(byte, b'"' | b'-' | b'i' | b'n'),
@@ -104,7 +104,7 @@ fn quiet_end(text: &[u8], place: Place, from: usize) -> usize
     ensures { IsQuietTo text.now place from result }
 {
     let mut at = from;
-    while at < text.len() && is_quiet(place, text[at]) {
+    while at < text.len() && is_quiet_byte(place, text[at]) {
         at += 1;
     }
     at
