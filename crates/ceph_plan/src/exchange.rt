@@ -83,7 +83,6 @@ fn closest_swap(ground: &Ground<'_>, lists: &[Vec<PartHeat>], least: usize) -> O
             coming: (other.part.0, ground.parts.root),
             to: least,
             greatest: here,
-            first: 0,
         })
     } else {
         None

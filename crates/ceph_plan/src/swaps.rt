@@ -20,9 +20,6 @@ const TRIED: usize = 64;
 /// So many of the hottest parts of a rank are tried in pairs.
 const PAIRED: usize = 12;
 
-/// Of no more hours than this the loads are compared.
-const HOURS: usize = 32;
-
 /// The loads, and the most loaded rank.
 #[derive(Drop)]
 pub(crate) struct Ground<'a> {
@@ -48,17 +45,6 @@ pub(crate) struct Swap {
     pub to: usize,
     /// The greatest load of both ranks then.
     pub greatest: u64,
-    /// The hour that is looked at first of the next exchange: that in which the last one loaded a rank most.
-    pub first: usize,
-}
-
-/// What two ranks have in each hour of an exchange but for its last part.
-#[derive(Clone, Copy)]
-struct Sides {
-    /// The rank that gets it.
-    gets: [u64; HOURS],
-    /// The rank that gives it.
-    gives: [u64; HOURS],
 }
 
 /// The load of a rank in an hour.
@@ -141,55 +127,40 @@ fn heat_of(parts: &PartAmounts<'_>, hour: usize, both: (u32, u32)) -> u64 {
     heat_in(parts, hour, both.0).saturating_add(heat_in(parts, hour, both.1))
 }
 
-/// What two ranks have in each hour once these parts went from the first of them to the second.
-fn sides_after(ground: &Ground<'_>, from: usize, to: usize, parts: (u32, u32)) -> Sides {
-    let (mut gets, mut gives) = ([0u64; HOURS], [0u64; HOURS]);
-    for hour in 0..HOURS.min(ground.parts.hours.len()) {
-        let heat = heat_of(ground.parts, hour, parts);
-        gets[hour] = load_in(ground.table, hour, from).saturating_sub(heat);
-        gives[hour] = load_in(ground.table, hour, to).saturating_add(heat);
-    }
-    Sides { gets, gives }
+/// The greater load of both ranks in an hour after an exchange.
+fn load_after(ground: &Ground<'_>, swap: Swap, hour: usize) -> u64 {
+    let going = heat_of(ground.parts, hour, swap.going);
+    let coming = heat_of(ground.parts, hour, swap.coming);
+    let here = load_in(ground.table, hour, ground.most).saturating_add(coming);
+    let there = load_in(ground.table, hour, swap.to).saturating_add(going);
+    here.saturating_sub(going).max(there.saturating_sub(coming))
 }
 
-/// The greater load of both ranks in an hour after an exchange with this last part.
-fn load_after(parts: &PartAmounts<'_>, sides: &Sides, hour: usize, last: u32) -> u64 {
-    if hour >= HOURS {
-        return 0;
-    }
-    let heat = heat_in(parts, hour, last);
-    let gives = sides.gives[hour].saturating_sub(heat);
-    sides.gets[hour].saturating_add(heat).max(gives)
-}
-
-/// The greatest load of both ranks in any hour after an exchange with this last part, as far as it is less than that of
-/// another one, and the hour in which it is.
-fn greatest_after(parts: &PartAmounts<'_>, sides: &Sides, best: Swap, last: u32) -> (u64, usize) {
-    let mut first = best.first;
-    let mut most = load_after(parts, sides, first, last);
-    for hour in 0..parts.hours.len() {
-        if most >= best.greatest {
-            return (most, first);
+/// The greatest load of both ranks in any hour after an exchange, as far as it is less than that of another one.
+fn greatest_after(ground: &Ground<'_>, swap: Swap) -> u64 {
+    let mut most = load_after(ground, swap, ground.hour);
+    for hour in 0..ground.parts.hours.len() {
+        if most >= swap.greatest {
+            return most;
         }
-        let load = load_after(parts, sides, hour, last);
-        if load > most {
-            (most, first) = (load, hour);
-        }
+        most = load_after(ground, swap, hour).max(most);
     }
-    (most, first)
+    most
 }
 
-/// The better of two exchanges, of which the second has this last part.
-fn better(parts: &PartAmounts<'_>, sides: &Sides, best: Swap, swap: Swap, last: u32) -> Swap {
-    let (greatest, first) = greatest_after(parts, sides, best, last);
-    if greatest < best.greatest {
+/// The better of two exchanges.
+fn better(ground: &Ground<'_>, best: Swap, swap: Swap) -> Swap {
+    let greatest = greatest_after(
+        ground,
         Swap {
-            greatest,
-            first,
+            greatest: best.greatest,
             ..swap
-        }
+        },
+    );
+    if greatest < best.greatest {
+        Swap { greatest, ..swap }
     } else {
-        Swap { first, ..best }
+        best
     }
 }
 
@@ -220,30 +191,25 @@ fn none_with(ground: &Ground<'_>, to: usize) -> Swap {
         coming: (root, root),
         to,
         greatest: load_in(ground.table, ground.hour, ground.most),
-        first: ground.hour,
     }
 }
 
 /// The better of an exchange and another one with each of these parts, which comes.
 fn with_coming(of: &Between<'_>, best: Swap, swap: Swap, parts: &[PartHeat]) -> Swap {
-    let sides = sides_after(of.ground, of.ground.most, of.to, swap.going);
     let mut best = best;
     for one in parts {
         let coming = (one.part.0, of.ground.parts.root);
-        let with = Swap { coming, ..swap };
-        best = better(of.ground.parts, &sides, best, with, one.part.0);
+        best = better(of.ground, best, Swap { coming, ..swap });
     }
     best
 }
 
 /// The better of an exchange and another one with each of these parts, which goes.
 fn with_going(of: &Between<'_>, best: Swap, swap: Swap, parts: &[PartHeat]) -> Swap {
-    let sides = sides_after(of.ground, of.to, of.ground.most, swap.coming);
     let mut best = best;
     for one in parts {
         let going = (one.part.0, of.ground.parts.root);
-        let with = Swap { going, ..swap };
-        best = better(of.ground.parts, &sides, best, with, one.part.0);
+        best = better(of.ground, best, Swap { going, ..swap });
     }
     best
 }
