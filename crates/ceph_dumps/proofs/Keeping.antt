@@ -16,17 +16,6 @@ use Rattle.ceph_dumps.proofs.Saying.{opened_object}
 -- ---- what is said of an object is said of the members that are kept
 
 module _ {A : Type 0} (said : Json → Option A) (kept : List ℕ → Bool) (law : (j : Json) → option_and_then said (slim kept j) ≡ said j) where
-  pub said_by_kept : (o : Option (Json × List Token)) (j : Json) (rest : List Token) → said_of (slim kept) o ≡ Some (j, rest)
-      → said_of said o ≡ option_map (λ what. (what, rest)) (said j)
-  said_by_kept None j rest e = absurd (cc)
-  said_by_kept (Some part) j rest e = of_slim (slim kept part.0) refl e where
-    of_slim : (s : Option Json) → slim kept part.0 ≡ s → option_map {U = Json × List Token} (λ what. (what, part.1)) s ≡ Some (j, rest)
-        → option_map {U = A × List Token} (λ what. (what, part.1)) (said part.0) ≡ option_map (λ what. (what, rest)) (said j)
-    of_slim None is e = absurd (cc)
-    of_slim (Some k) is e =
-        let same : (k, part.1) ≡ (j, rest) = cc in
-        rw (sym (law part.0), is) (ap (λ (p : Json × List Token). option_map {U = A × List Token} (λ what. (what, p.1)) (said p.0)) same)
-
   pub unsaid_by_kept : (o : Option (Json × List Token)) → said_of (slim kept) o ≡ None → said_of said o ≡ None
   unsaid_by_kept None e = refl
   unsaid_by_kept (Some part) e = of_slim (slim kept part.0) refl e where

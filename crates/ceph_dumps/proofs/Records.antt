@@ -1,10 +1,10 @@
 -- Which words a record has, and where a record ends.
-use Rattle.std.proofs.Common.{◌≡◌, ◌∙◌, ◌++◌, ◌∷◌, ◌==◌, [], ℕ, false, List, ap, arith, drop, get_or, length, refl, sym, take}
+use Rattle.std.proofs.Common.{◌≡◌, ◌∙◌, ◌++◌, ◌∷◌, ◌==◌, [], ℕ, false, List, ap, arith, drop, length, refl, sym, take}
 use Rattle.std.proofs.Math.Seq.{drop-append_seam, take-append_seam}
 use Rattle.std.proofs.lemmas.Bool.{eq-eqb, false≢true, or_parts}
 use Rattle.std.proofs.lemmas.Bool.Decides.{nat_tests}
 use Rattle.std.proofs.lemmas.Str.Parse.{digit_from_value}
-use Rattle.std.specs.Str.Parse.{AllDigits, IsNumeral}
+use Rattle.std.specs.Str.Parse.{AllDigits}
 use Rattle.ceph_dumps.specs.Inodes.{IsNumberAndName, has_nul, with_nul}
 use Rattle.ceph_dumps.specs.OneForOne.{AreOneForOne}
 use Rattle.ceph_dumps.specs.OwnList.{digit_count}
@@ -34,10 +34,6 @@ pub same_name : (text name other : List ℕ) (number more : ℕ) → IsNumberAnd
 same_name text name other number more one two =
     let is : 32 ∷ name ≡ 32 ∷ other = sym (words_behind text name number one) ∙ words_behind text other more two in
     cc
-
-pub no_plus : (ds : List ℕ) → IsNumeral 10 ds → get_or ds 0 0 ≡ 43 → ⊥
-no_plus [] numeral is = absurd (omega (arith, numeral.0))
-no_plus (c ∷ cs) numeral is = absurd (omega (arith, is, digit_from_value c numeral.1.0))
 
 -- what comes before the first NUL
 pub first_nul : (a b x y : List ℕ) → has_nul a ≡ false → has_nul b ≡ false → with_nul a ++ x ≡ with_nul b ++ y → a ≡ b

@@ -1,7 +1,7 @@
 -- The sum of weighed counters, one by one.
-use Rattle.std.proofs.Common.{◌≡◌, ◌<◌, ◌≤◌, ◌+◌, ◌∙◌, ◌⊎◌, ℕ, pos, List, [], ◌∷◌, length, drop, get_or, min, refl, ap, arith, ⊎_elim, leb, true, false, inl, inr}
-use Rattle.std.proofs.lemmas.List.{drop_all, drop_more}
-use Rattle.std.specs.Float.{Float, binary64}
+use Rattle.std.proofs.Common.{◌≡◌, ◌<◌, ◌≤◌, ◌+◌, ◌∙◌, ◌⊎◌, ℕ, List, [], ◌∷◌, length, drop, min, refl, ap, arith, ⊎_elim, leb, true, false, inl, inr}
+use Rattle.std.proofs.lemmas.List.{drop_all}
+use Rattle.std.specs.Float.{Float}
 use Rattle.std.proofs.lemmas.Bool.{cases_Bool, leb-false, leb-true}
 use lib.Ieee as Ieee
 use Rattle.ceph_dumps.specs.Loads.{weighed_sum}
@@ -24,12 +24,3 @@ all_weighed sum counters weights at past =
     (λ (end : length weights ≤ at).
     ap (λ (left : List ℕ). weighed_sum sum (drop at counters) left) (drop_all at weights end) ∙ no_weights sum (drop at counters))
     past
-
-pub one_weighed : (sum : Float) (counters : List Float) (weights : List ℕ) (at : ℕ) (c : Float) (w : ℕ)
-    → at < length counters → at < length weights
-    → weighed_sum sum (drop at counters) (drop at weights)
-    ≡ weighed_sum (Ieee.add binary64 sum (Ieee.mul binary64 (get_or counters at c) (Ieee.of_int binary64 (pos (get_or weights at w)))))
-    (drop (at + 1) counters) (drop (at + 1) weights)
-one_weighed sum counters weights at c w inside within =
-    ap (λ (left : List Float). weighed_sum sum left (drop at weights)) (drop_more counters at c inside)
-    ∙ ap (λ (left : List ℕ). weighed_sum sum (get_or counters at c ∷ drop (at + 1) counters) left) (drop_more weights at w within)

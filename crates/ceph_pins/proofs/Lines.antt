@@ -8,7 +8,7 @@ use Rattle.std.proofs.lemmas.List.Elements.{All-append}
 use Rattle.ceph_plan.specs.declared.row.PinChange.{PinChange}
 use Rattle.ceph_snapshot.specs.declared.directory.Directory.{Directory}
 use Rattle.ceph_pins.specs.OwnList.{pin_line_of, own_lines}
-use Rattle.ceph_pins.specs.PinsScript.{HasNoNul, change_line, needs_ceph, needs_mount, path_at, pins_script, variable_lines}
+use Rattle.ceph_pins.specs.PinsScript.{HasNoNul, change_line, needs_ceph, needs_mount, pins_script, variable_lines}
 use Rattle.ceph_pins.specs.declared.pins_script.TheConstants.{HEAD, CHECKS, CEPH, FOOT}
 
 -- one more element's text
@@ -31,12 +31,6 @@ script_of mount name fsid by_ceph directories (change ∷ changes) some = refl
 -- a place without a NUL
 pub place_no_nul : (mount path place : List ℕ) → place ≡ mount ++ path → HasNoNul mount → HasNoNul path → HasNoNul place
 place_no_nul mount path place is fine others = rw is (All-append (λ byte. 0 < byte) mount path fine others)
-
--- the path of a directory that is there
-pub path_read : (directories : List Directory) (i : ℕ) (one : Directory) → i < length directories → one ≡ get_or directories i one → path_at directories i ≡ one.path.items
-path_read [] i one inside is = absurd (omega (arith, inside))
-path_read (first ∷ directories) zero one inside is = ap (λ (d : Directory). d.path.items) (sym is)
-path_read (first ∷ directories) (suc i) one inside is = path_read directories i one (omega (arith, inside)) is
 
 -- the lines of the same pins
 pub own_lines_same : (directories : List Directory) (f g : ℕ → Option ℕ) (n : ℕ) → ((i : ℕ) → i < n → f i ≡ g i) → own_lines directories f n ≡ own_lines directories g n

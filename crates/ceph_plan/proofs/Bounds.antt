@@ -1,9 +1,9 @@
 -- Why no assignment gets below the bound.
-use Rattle.std.proofs.Common.{◌≡◌, ◌≢◌, ◌∙◌, ℕ, zero, suc, ◌+◌, ◌*◌, ◌/◌, ◌%◌, ◌<◌, ◌≤◌, min, max, List, length, get_or, set, slice_index, Bool, true, false, cond, eqb, ◌⊎◌, inl, inr, ⊎_elim, refl, ap, subst, sym, arith}
+use Rattle.std.proofs.Common.{◌≡◌, ◌≢◌, ◌∙◌, ℕ, zero, suc, ◌+◌, ◌*◌, ◌/◌, ◌%◌, ◌<◌, ◌≤◌, min, max, List, length, get_or, set, slice_index, Bool, true, false, cond, eqb, ◌⊎◌, inl, inr, ⊎_elim, refl, ap, sym, arith}
 use Rattle.std.proofs.lemmas.Bool.{cases_Bool, cases_eq, cases_lt, and_parts, both_ways, eq-eqb, ltb-true, ne_eqb}
 use Rattle.std.proofs.lemmas.Grind.{div_ceil_times}
 use Rattle.std.proofs.lemmas.List.{get_or-set_other, get_or-set_same}
-use Rattle.std.proofs.Math.Nat.{le_trans, mul-le-mul_left, mul_comm}
+use Rattle.std.proofs.Math.Nat.{mul-le-mul_left, mul_comm}
 use Rattle.mds_types.specs.RankSet.{has_rank, rank_count}
 use Rattle.mds_types.specs.Sums.{count_below, max_below, sum_below}
 use Rattle.mds_types.proofs.SumsLemmas.{max_below-le, max_below-term, sum_below-add, sum_below-pick, sum_below-same, sum_below-swap, sum_below-term, sum_below-zero}
@@ -209,13 +209,3 @@ least_passed ranks numbers n old new so_far has is = record {
       (cases_eq r n);
   one = (so_far.one.0, so_far.one.1, so_far.one.2 ∙ sym is);
 }
-
--- the rank whose number is least so far, once one more is looked at
-pub least-rank : (ranks : ℕ) (numbers : List ℕ) (n old new : ℕ) → slice_index numbers new ≤ slice_index numbers old → (has_rank ranks n ≡ true → slice_index numbers new ≤ slice_index numbers n)
-    → ((r : ℕ) → r < n → has_rank ranks r ≡ true → slice_index numbers old ≤ slice_index numbers r)
-    → (r : ℕ) → r < n + 1 → has_rank ranks r ≡ true → slice_index numbers new ≤ slice_index numbers r
-least-rank ranks numbers n old new down here before r l has =
-    ⊎_elim (λ (same : r ≡ n).
-    subst (λ (k : ℕ). slice_index numbers new ≤ slice_index numbers k) (sym same) (here (ap (has_rank ranks) (sym same) ∙ has)))
-    (λ (other : r ≢ n). le_trans down (before r (let less : r < n = omega (arith, l, other) in less) has))
-    (cases_eq r n)

@@ -26,12 +26,6 @@ pub record IsNextBefore (keep : ℕ) (kept : List Bool) (bounds loads chosen : L
   pub most : best < length kept → (g : ℕ) → g < h → MayCome keep kept bounds loads chosen g → ¬ IsMoreUneven bounds loads g best
   pub none : best ≡ length kept → (g : ℕ) → g < h → ¬ MayCome keep kept bounds loads chosen g
 
--- what is more uneven than the most uneven one is more so than all
-cancel : (a b y : ℕ) → a * y < b * y → a < b
-cancel a b y less =
-    ⊎_elim (λ (is : a < b). is)
-    (λ (above : b ≤ a). absurd (let none : ⊥ = omega (arith, less, mul-le b y a y above (omega arith)) in none)) (cases_lt a b)
-
 swap : (a b y : ℕ) → a * b * y ≡ a * y * b
 swap a b y = mul_assoc a b y ∙ (ap (λ (n : ℕ). a * n) (mul_comm b y) ∙ sym (mul_assoc a y b))
 

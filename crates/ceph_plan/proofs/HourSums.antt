@@ -1,12 +1,12 @@
 -- The greatest of the hours, and sums over them.
-use Rattle.std.proofs.Common.{◌≡◌, ◌+◌, ◌*◌, ◌<◌, ◌≤◌, ◌==◌, ◌^◌, ℕ, zero, suc, Bool, true, false, List, cond, length, slice_index, ap, arith, refl, subst}
+use Rattle.std.proofs.Common.{◌≡◌, ◌+◌, ◌*◌, ◌<◌, ◌≤◌, ◌==◌, ◌^◌, ℕ, zero, suc, Bool, true, false, List, cond, length, slice_index, ap, arith, refl}
 use Rattle.std.proofs.lemmas.List.Elements.{All-get_or}
 use Rattle.mds_types.specs.declared.problem.ProblemRow.{ProblemRow}
 use Rattle.mds_types.specs.Problem.{IsForest, heat_at}
 use Rattle.mds_types.specs.Sums.{max_below, sum_below}
 use Rattle.mds_types.proofs.SumsLemmas.{sum_below-fewer, sum_below-le, sum_below-same, sum_below_more}
 use Rattle.ceph_plan.specs.declared.hours.Hour.{Hour}
-use Rattle.ceph_plan.specs.Packing.{AreHours, AreLoads, ArePinned, HasHeats, HaveHeats, IsOneHour, greatest_load, greatest_of, heat_in, heats_in, load, load_in, load_of_rows, pinned_at, pinned_in}
+use Rattle.ceph_plan.specs.Packing.{AreHours, AreLoads, ArePinned, HaveHeats, IsOneHour, greatest_load, greatest_of, heat_in, load, load_in, load_of_rows, pinned_at, pinned_in}
 use Rattle.ceph_plan.proofs.Bounds.{greatest-same}
 
 -- the greatest of what is alike
@@ -60,12 +60,6 @@ pub one-greatest : (ranks : ℕ) (rows : List ProblemRow) (pinned : List ℕ) (h
     → greatest_load ranks hours (length rows) to ≡ greatest_of ranks (load_of_rows pinned rows to)
 one-greatest ranks rows pinned hours to is =
     greatest-same ranks (load hours (length rows) to) (load_of_rows pinned rows to) (λ r l. one-load rows pinned hours to r is)
-
--- and none of its rows is hotter
-pub one-have : (rows : List ProblemRow) (pinned : List ℕ) (hours : List Hour) → IsOneHour rows pinned hours → HaveHeats rows hours
-one-have rows pinned hours is h l =
-    subst (λ (k : ℕ). HasHeats rows (heats_in hours k)) (let first : 0 ≡ h = omega (arith, l, is.one) in first)
-    (record { size = is.size; cool = λ i inside. omega (arith, is.heats i inside) })
 
 fewer : (b : Bool) (x : ℕ) → cond b x 0 ≤ x
 fewer true x = omega arith

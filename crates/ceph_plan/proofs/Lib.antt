@@ -1,8 +1,6 @@
-pub mod AskedRows
 pub mod Bounds
 pub mod CappedRows
 pub mod Choosing
-pub mod Chosen
 pub mod Climbs
 pub mod Cold
 pub mod Found

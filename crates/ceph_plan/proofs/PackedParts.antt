@@ -1,13 +1,13 @@
 -- The packing with one more part.
 use Rattle.std.proofs.Common.{◌/◌, ◌≡◌, ◌≢◌, ◌∙◌, ◌+◌, ◌*◌, ◌<◌, ◌≤◌, ◌&&◌, ◌||◌, ◌==◌, ℕ, zero, suc, Bool, true, false, List, length, length-set, get_or, set, slice_index, cond, eqb, nat_lt, inl, inr, ⊎_elim, ap, arith, refl, replicate, subst, sym}
-use Rattle.std.proofs.Math.Nat.{le-add_right, le_of_eq, le_of_lt, mul-le-mul_left}
+use Rattle.std.proofs.Math.Nat.{le_of_eq, le_of_lt, mul-le-mul_left}
 use Rattle.std.proofs.lemmas.Bool.{and_parts, both_ways, cases_Bool, cases_eq, cases_lt, eq-eqb, eqb-true, le-ltb, ltb-true, ne_eqb, or_cases, or_from, or_left, or_right}
 use Rattle.std.proofs.lemmas.List.{get_or-replicate, get_or-set_other, get_or-set_same, get_or_default, length-replicate}
 use Rattle.mds_types.specs.RankSet.{has_rank}
 use Rattle.mds_types.specs.Sums.{sum_below}
 use Rattle.mds_types.proofs.SumsLemmas.{sum_below-add, sum_below-pick, sum_below-same, sum_below-term, sum_below-zero}
 use Rattle.ceph_plan.specs.declared.hours.Hour.{Hour}
-use Rattle.ceph_plan.specs.Balance.{AreGreatest, CanTake, HaveRanks, IsEvened, IsKeptPacking, IsKeptWithin, IsLargestFirst, IsNearMean, IsByHeat, IsSent, allowed, goes_before, greatest_by, is_hotter, load_by, load_of_parts, load_with, made}
+use Rattle.ceph_plan.specs.Balance.{AreGreatest, CanTake, HaveRanks, IsEvened, IsKeptWithin, IsLargestFirst, IsNearMean, IsByHeat, IsSent, allowed, goes_before, greatest_by, is_hotter, load_by, load_of_parts, load_with, made}
 use Rattle.ceph_plan.specs.Packing.{AreHours, heat_in, load_in, pinned_at, worst}
 use Rattle.ceph_plan.proofs.Bounds.{rank-small, set_usable}
 use Rattle.ceph_plan.proofs.HourSums.{max-least, max-same, pinned-small}
@@ -376,23 +376,6 @@ load-room ranks hours heats inodes order root limit rank done loads left p packe
     sum_below-term (length heats) p (heat_in hours h) inside,
   );
 }
-
--- whichever packing is taken, each part has a rank
-pub ranks-kept : (ranks : ℕ) (hours : List Hour) (heats inodes : List ℕ) (root keep : ℕ) (even rank : List ℕ) → HaveRanks ranks heats root even → IsKeptPacking ranks hours heats inodes root keep even rank
-    → HaveRanks ranks heats root rank
-ranks-kept ranks hours heats inodes root keep even rank have chosen = elim chosen.taken [
-  | inl near ↦ subst (HaveRanks ranks heats root) (sym near.1) chosen.mended.ranks_are
-  | inr plain ↦ subst (HaveRanks ranks heats root) (sym plain.1) have
-]
-
--- and the greatest load is allowed
-pub within-kept : (ranks : ℕ) (hours : List Hour) (heats inodes : List ℕ) (root keep : ℕ) (even rank : List ℕ) → IsKeptPacking ranks hours heats inodes root keep even rank
-    → greatest_by ranks hours heats rank ≤ allowed keep (greatest_by ranks hours heats even)
-within-kept ranks hours heats inodes root keep even rank chosen = elim chosen.taken [
-  | inl near ↦ subst (λ (xs : List ℕ). greatest_by ranks hours heats xs ≤ allowed keep (greatest_by ranks hours heats even)) (sym near.1) near.0
-  | inr plain ↦ subst (λ (xs : List ℕ). greatest_by ranks hours heats xs ≤ allowed keep (greatest_by ranks hours heats even)) (sym plain.1)
-      (le-add_right (greatest_by ranks hours heats even) (greatest_by ranks hours heats even / 100 * keep))
-]
 
 -- what is evened is no hotter
 pub cooler-evened : (ranks : ℕ) (hours : List Hour) (heats : List ℕ) (root enough : ℕ) (packed rank : List ℕ) → IsEvened ranks hours heats root enough packed rank

@@ -6,7 +6,7 @@ use Rattle.mds_types.specs.Problem.{IsForest, parent_at}
 use Rattle.mds_types.specs.RankSet.{has_rank}
 use Rattle.mds_types.proofs.SumsLemmas.{sum_below-same}
 use Rattle.residual_cut.specs.Labels.{IsLabelled, starts}
-use Rattle.residual_cut.proofs.LabelLemmas.{labelled_none, labelled_parts, labelled_step, slice_index-last, slice_index-push}
+use Rattle.residual_cut.proofs.LabelLemmas.{labelled_parts, labelled_step, slice_index-last, slice_index-push}
 use Rattle.ceph_plan.specs.declared.hours.Hour.{Hour}
 use Rattle.ceph_plan.specs.Packing.{IsPacking, greatest_of, heat_in, load, load_in, packed_rank, pinned_at}
 use Rattle.ceph_plan.specs.Placements.{AreGoals, AreRegions, IsPlacement, is_border}
@@ -14,14 +14,6 @@ use Rattle.ceph_plan.specs.Plans.{moved_inodes}
 use Rattle.ceph_plan.specs.declared.plan.Planned.{Planned}
 use Rattle.ceph_plan.proofs.Bounds.{greatest-same}
 use Rattle.ceph_plan.proofs.HourSums.{max-same}
-
-pub regions-none : (rows : List ProblemRow) (goals part rank : List ℕ) → part ≡ [] → rank ≡ [] → AreRegions rows goals 0 part rank
-regions-none rows goals part rank part_is rank_is = record {
-  size = ap length part_is;
-  few = omega (arith, ap length rank_is);
-  labelled = subst (λ (n : ℕ). IsLabelled rows (is_border rows goals) (slice_index part) n 0) (sym (ap length rank_is)) (labelled_none rows (is_border rows goals) (slice_index part));
-  ranks = λ i l. absurd (omega (arith, l));
-}
 
 not-false : (b : Bool) → not b ≡ false → b ≡ true
 not-false true is = refl

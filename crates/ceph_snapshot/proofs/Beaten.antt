@@ -119,10 +119,6 @@ beaten_more ds old new at is_so first below inside before so made i some low =
           (cases_eq h.child at),
     )
 
--- there is no child past the last directory
-pub none_yet : (ds : List Directory) (i : ℕ) → HasBeaten ds (length ds) i → ⊥
-none_yet ds i h = omega (arith, h.from, h.inside)
-
 -- all directories are looked at: a directory with a random policy or with a marked child
 pub all_above : (ds : List Directory) (i : ℕ) → AreParentsFirst ds → 0 < i → HasBeaten ds 1 i ⊎ (policy_at ds i ≡ Some Random) → IsAboveRandom ds i
 all_above ds i first below (inl h) = record { steps = suc h.above.steps; policy = (h.child, h.parent, h.unpinned, h.above.policy) }

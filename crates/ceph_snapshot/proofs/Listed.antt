@@ -7,7 +7,7 @@ use Rattle.std.proofs.lemmas.List.{map-append, take_more}
 use Rattle.std.proofs.lemmas.List.Elements.{filter-append}
 use Rattle.std.proofs.lemmas.Option.{slice_get_past}
 use Rattle.ceph_dumps.specs.declared.listing.ListedDir.{ListedDir}
-use Rattle.ceph_snapshot.specs.Mounts.{is_number, only_path, paths_of}
+use Rattle.ceph_snapshot.specs.Mounts.{is_number, paths_of}
 use Rattle.ceph_snapshot.specs.Places.{IsNumberPlace, path_listed}
 use Rattle.ceph_snapshot.proofs.Placing.{at-other, at-same}
 
@@ -45,16 +45,6 @@ noted listing at d number old new inside is path was now =
     subst (IsNumberPlace listing (paths_of (take (at + 1) listing) number)) (sym now)
     (subst (λ (ps : List (List ℕ)). IsNumberPlace listing ps (cond (is_number number d.value) (Some (cond (is_some old) None (Some at))) old)) (sym (paths_more listing at d number inside is))
     (place_more listing (paths_of (take at listing) number) at d.path.items old (is_number number d.value) inside path was))
-
--- what the place of a number says of its path
-pub only_one : (listing : List ListedDir) (paths : List (List ℕ)) (at : ℕ) → IsNumberPlace listing paths (Some (Some at)) → only_path paths ≡ Some (path_listed listing at)
-only_one listing paths at is = ap only_path is.1
-
-pub no_one : (listing : List ListedDir) (paths : List (List ℕ)) → IsNumberPlace listing paths None → only_path paths ≡ None
-no_one listing paths is = ap only_path is
-
-pub not_one : (listing : List ListedDir) (paths : List (List ℕ)) → IsNumberPlace listing paths (Some None) → only_path paths ≡ None
-not_one listing paths is = ap only_path is.3
 
 -- one more of a list is named as the mount does
 pub named_more : {X C : Type 0} (f g : X → C) (start cur : List X) (at : ℕ) (d new : X) → at < length cur → slice_get start at ≡ Some d → f new ≡ g d

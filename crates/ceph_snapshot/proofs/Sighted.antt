@@ -1,9 +1,9 @@
 -- What is counted at a directory with one more sighting, and with all.
-use Rattle.std.proofs.Common.{◌≡◌, ◌≢◌, ◌∙◌, ◌<◌, ◌≤◌, ◌+◌, ◌++◌, ◌∷◌, ◌==◌, ◌&&◌, ◌||◌, [], ℕ, suc, Bool, true, false, All, List, Option, Some, None, cond, length, map, min, set, slice_get, refl, ap, sym, subst, arith, sum_by, ⊎_elim}
+use Rattle.std.proofs.Common.{◌≡◌, ◌≢◌, ◌∙◌, ◌<◌, ◌≤◌, ◌+◌, ◌++◌, ◌∷◌, ◌==◌, ◌&&◌, ◌||◌, [], ℕ, suc, Bool, true, false, All, List, Option, Some, None, cond, length, map, set, slice_get, refl, ap, sym, subst, arith, sum_by, ⊎_elim}
 use Rattle.std.specs.List.{fold}
 use Rattle.std.specs.Option.{option_map, option_or, unwrap_or}
 use Rattle.std.proofs.lemmas.Bool.{cases_eq, eq-eqb, false_from_ne_true, ne_eqb}
-use Rattle.std.proofs.lemmas.List.Sums.{fold-append, sum_by-append, sum_by-cons}
+use Rattle.std.proofs.lemmas.List.Sums.{sum_by-cons}
 use Rattle.std.proofs.lemmas.Option.{none-some, slice_get-map, slice_get_cases, slice_get_past}
 use Rattle.std.proofs.lemmas.Slice.Eq.{bytes_eq-Decides}
 use Rattle.std.specs.Str.{bytes_eq}
@@ -12,10 +12,7 @@ use Rattle.ceph_snapshot.specs.declared.tree.Node.{Node}
 use Rattle.ceph_snapshot.specs.declared.tree.Sighting.{Sighting}
 use Rattle.ceph_snapshot.specs.Authority.{node_path_at}
 use Rattle.ceph_snapshot.specs.Doubts.{with_listed}
-use Rattle.ceph_snapshot.specs.Gathered.{seen_heat}
-use Rattle.ceph_snapshot.specs.Holding.{most_heat}
 use Rattle.ceph_snapshot.specs.Sightings.{AreCold, HasSeen, HaveOwnPaths, PathHeat, Position, Account, counts, is_seen_by, mean_of, mean_account, position_of, sum_at, account_of, account_at, account_by, account_with, with_path}
-use Rattle.ceph_snapshot.proofs.Adding.{capped-add}
 use Rattle.ceph_snapshot.proofs.Numbers.{path_account}
 use Rattle.ceph_snapshot.proofs.Placing.{at-other, at-same}
 
@@ -46,64 +43,9 @@ account_past nodes s past i =
     (λ (other : i ≢ s.directory). sym (elsewhere s (slice_get nodes i)) ∙ ap (λ (b : Bool). option_map (λ (n : Node). account_with b s n.directory) (slice_get nodes i)) (sym (ne_eqb s.directory i (λ is. other (sym is)))))
     (cases_eq i s.directory)
 
--- by what is told of a directory and where it is
-with_of : Bool → Sighting → Account → Position → Account
-with_of here s t p = (t.0, (seen_heat t.1.0 s.heat (here && (p.0 || (p.1.0 == s.rank))), (seen_heat t.1.1.0 s.writes (here && (p.0 || (p.1.0 == s.rank))), cond here (option_or s.inode t.1.1.1) t.1.1.1)))
-
 seen_by_place : (spread : Bool) (now rank : ℕ) → (spread || (now == rank)) ≡ (spread || (cond spread 0 now == rank))
 seen_by_place true now rank = refl
 seen_by_place false now rank = refl
-
-with_is : (here : Bool) (s : Sighting) (d : Directory) → account_with here s d ≡ with_of here s (account_of d) (position_of d)
-unfolding with_of
-with_is here s d =
-    ap (λ (b : Bool). (d.path.items, (seen_heat d.heat s.heat (here && b), (seen_heat d.writes s.writes (here && b), cond here (option_or s.inode d.inode) d.inode)))) (seen_by_place d.is_spread d.now s.rank)
-
-sum_more : (i : ℕ) (d : Directory) (part : Sighting → ℕ) (ss : List Sighting) (s : Sighting)
-    → seen_heat (min most_heat (sum_at i d part ss)) (part s) ((s.directory == i) && is_seen_by d s.rank) ≡ min most_heat (sum_at i d part (ss ++ s ∷ []))
-sum_more i d part ss s = counted ((s.directory == i) && is_seen_by d s.rank) refl where
-  f : Sighting → ℕ
-  f one = cond ((one.directory == i) && is_seen_by d one.rank) (part one) 0
-
-  one : (b : Bool) → ((s.directory == i) && is_seen_by d s.rank) ≡ b → sum_by f (s ∷ []) ≡ cond b (part s) 0
-  one b is = let end : f s + 0 ≡ f s = omega arith in sum_by-cons f s [] ∙ (end ∙ ap (λ (c : Bool). cond c (part s) 0) is)
-
-  counted : (b : Bool) → ((s.directory == i) && is_seen_by d s.rank) ≡ b → seen_heat (min most_heat (sum_at i d part ss)) (part s) b ≡ min most_heat (sum_at i d part (ss ++ s ∷ []))
-  counted true is =
-      capped-add most_heat (sum_at i d part ss) (part s)
-      ∙ ap (min most_heat) (sym (sum_by-append f ss (s ∷ []) ∙ ap (λ (k : ℕ). sum_by f ss + k) (one true is)))
-  counted false is =
-      ap (min most_heat) (sym (sum_by-append f ss (s ∷ []) ∙ (ap (λ (k : ℕ). sum_by f ss + k) (one false is) ∙ (let zero : sum_by f ss + 0 ≡ sum_by f ss = omega arith in zero))))
-
-counted_more : (i : ℕ) (d : Directory) (ss : List Sighting) (s : Sighting) → with_of (s.directory == i) s (account_by i ss d) (position_of d) ≡ account_by i (ss ++ s ∷ []) d
-unfolding with_of
-counted_more i d ss s =
-    ap (λ (b : Bool). (d.path.items, (seen_heat (min most_heat (sum_at i d (λ one. one.heat) ss)) s.heat (here && b), (seen_heat (min most_heat (sum_at i d (λ one. one.writes) ss)) s.writes (here && b), was)))) (sym (seen_by_place d.is_spread d.now s.rank))
-    ∙ (ap (λ (h : ℕ). (d.path.items, (h, (seen_heat (min most_heat (sum_at i d (λ one. one.writes) ss)) s.writes (here && is_seen_by d s.rank), was)))) (sum_more i d (λ one. one.heat) ss s)
-    ∙ (ap (λ (w : ℕ). (d.path.items, (min most_heat (sum_at i d (λ one. one.heat) (ss ++ s ∷ [])), (w, was)))) (sum_more i d (λ one. one.writes) ss s)
-    ∙ ap (λ (o : Option ℕ). (d.path.items, (min most_heat (sum_at i d (λ one. one.heat) (ss ++ s ∷ [])), (min most_heat (sum_at i d (λ one. one.writes) (ss ++ s ∷ [])), o)))) (sym (fold-append named None ss (s ∷ []))))) where
-      here : Bool
-      here = s.directory == i
-
-      named : Option ℕ → Sighting → Option ℕ
-      named found one = cond (one.directory == i) (option_or one.inode found) found
-
-      was : Option ℕ
-      was = cond here (option_or s.inode (fold named None ss)) (fold named None ss)
-
--- one more sighting
-pub account_more : (i : ℕ) (ss : List Sighting) (s : Sighting) (old now new : Option Node) → option_map (λ (n : Node). account_of n.directory) now ≡ option_map (λ (n : Node). account_by i ss n.directory) old
-    → option_map (λ (n : Node). position_of n.directory) now ≡ option_map (λ (n : Node). position_of n.directory) old
-    → option_map (λ (n : Node). account_of n.directory) new ≡ option_map (λ (n : Node). account_with (s.directory == i) s n.directory) now
-    → option_map (λ (n : Node). account_of n.directory) new ≡ option_map (λ (n : Node). account_by i (ss ++ s ∷ []) n.directory) old
-account_more i ss s None None new was lies is = is
-account_more i ss s None (Some n) new was lies is = absurd (none-some (account_of n.directory) (sym was))
-account_more i ss s (Some o) None new was lies is = absurd (none-some (account_by i ss o.directory) was)
-account_more i ss s (Some o) (Some n) new was lies is =
-    is ∙ ap (λ (t : Account). Some t) (with_is (s.directory == i) s n.directory
-    ∙ (ap (λ (t : Account). with_of (s.directory == i) s t (position_of n.directory)) (ap (λ (t : Option Account). unwrap_or t (account_of n.directory)) was)
-    ∙ (ap (with_of (s.directory == i) s (account_by i ss o.directory)) (ap (λ (p : Option Position). unwrap_or p (position_of n.directory)) lies)
-    ∙ counted_more i o.directory ss s)))
 
 -- no sighting counts at first
 pub account_first : (nodes : List Node) → AreCold nodes → (i : ℕ) → account_at nodes i ≡ option_map (λ (n : Node). account_by i [] n.directory) (slice_get nodes i)

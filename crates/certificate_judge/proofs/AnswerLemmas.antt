@@ -1,10 +1,7 @@
 -- The answers for one more certificate, and the totals of one more row.
-use Rattle.std.proofs.Common.{◌≡◌, ◌∙◌, ◌↔◌, ℕ, suc, ◌+◌, ◌<◌, ◌≤◌, ◌^◌, List, [], ◌∷◌, ◌++◌, All, IsTrue, length, get_or, refl, sym, ap, subst, arith, append_assoc, append-nil, string_bytes, Some, Bool, true, false, ◌&&◌}
-use Rattle.std.proofs.lemmas.List.{get_or_read}
+use Rattle.std.proofs.Common.{◌≡◌, ◌∙◌, ◌↔◌, ℕ, suc, ◌+◌, ◌<◌, ◌≤◌, ◌^◌, List, [], ◌∷◌, ◌++◌, All, IsTrue, length, refl, sym, ap, subst, arith, append_assoc, append-nil, string_bytes, Some, Bool, true, false, ◌&&◌}
 use Rattle.std.proofs.lemmas.List.Elements.{All-append, All-cons, All-nil, All-pop}
 use Rattle.std.proofs.lemmas.Bool.{false≢true}
-use Rattle.mds_types.specs.Problem.{IsForest, no_row}
-use Rattle.mds_types.specs.declared.problem.ProblemRow.{ProblemRow}
 use Rattle.plan_text.specs.declared.certificate.Certificate.{Certificate}
 use Rattle.certificate_judge.specs.Judged.{AreAnswersFor, AreVerdicts, HasBest, IsVerdict, ProofsHold}
 use Rattle.certificate_judge.specs.declared.answers.Answers.{Answers}
@@ -40,10 +37,3 @@ answers_more cs c number a b line holds at are is exact best lines hold = record
   );
   best = λ yes. let both = both_true a.hold holds (sym hold ∙ yes) in All-append HasBest cs (c ∷ []) (are.best both.0) (All-cons HasBest c [] (best both.1) (All-nil HasBest));
 }
-
--- a row's heat
-pub row_heat : (rows : List ProblemRow) (i : ℕ) (row : ProblemRow) → IsForest rows → i < length rows → row ≡ get_or rows i row → row.heat ≤ 2 ^ 40
-row_heat rows i row forest inside item =
-    let is : row ≡ get_or rows i no_row = get_or_read rows i row inside item no_row in
-    let cool : (get_or rows i no_row).heat ≤ 2 ^ 40 = forest.cool i inside in
-    subst (λ (r : ProblemRow). r.heat ≤ 2 ^ 40) (sym is) cool

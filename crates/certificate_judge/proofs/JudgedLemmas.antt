@@ -1,5 +1,5 @@
 -- What is printed for what was judged.
-use Rattle.std.proofs.Common.{◌≡◌, ◌≤◌, ◌⊎◌, ℕ, List, Option, Some, None, Result, Ok, Err, IfOk, IfSome, IsTrue, inl, inr, refl, arith, subst, string_bytes}
+use Rattle.std.proofs.Common.{◌≡◌, ◌≤◌, ◌⊎◌, ℕ, List, Option, Some, None, Result, Ok, Err, IfOk, IfSome, IsTrue, inl, inr, refl, arith, string_bytes}
 use Rattle.std.specs.Prelude.{IfErr, OnOk}
 use Rattle.std.specs.Io.KnownBytes.{Appends}
 use Rattle.plan_text.specs.declared.read_error.ReadError.TheVariants.{Line, Memory}
@@ -27,12 +27,6 @@ some_all (Some bytes) Q f = f bytes
 some_more : (known : Option (List ℕ)) (P Q : List ℕ → Type 0) → IfSome known P → ((bytes : List ℕ) → P bytes → Q bytes) → IfSome known Q
 some_more None P Q h f = tt
 some_more (Some bytes) P Q h f = f bytes h
-
--- what the bytes of a file that was opened are
-pub of_file : (known has : Option (List ℕ)) (Q : List ℕ → Type 0) (G : Type 0) → IfSome known (λ bytes. has ≡ Some bytes) → IfSome has Q ⊎ G → IfSome known Q ⊎ G
-of_file known has Q G e (inr g) = inr g
-of_file None has Q G e (inl h) = inl tt
-of_file (Some bytes) has Q G e (inl h) = inl (subst (λ (o : Option (List ℕ)). IfSome o Q) e h)
 
 module _ {W E : Type 0} (printed : W → Option (List ℕ)) (said : E → Option (List ℕ)) (known : Option (List ℕ)) (old new : W) (before after : E) (status : ℕ) where
   -- what is printed for answers

@@ -122,10 +122,6 @@ refuses free (Some bytes) left number made done (Read error) at fault = tt
 refuses free (Some bytes) left number made done (Text Memory) at fault = tt
 refuses free (Some bytes) left number made done (Text (Line line expected)) at fault = faulty free number made done (Some bytes) left at fault
 
-pub memory_refuses : (known : Option (List ℕ)) → IfSome known (λ bytes. Refuses bytes (Text Memory))
-memory_refuses None = tt
-memory_refuses (Some bytes) = tt
-
 all_left : (known : Option (List ℕ)) (bytes : List ℕ) → bytes ≡ [] → Consumes known (prepend_known bytes known) []
 all_left None bytes none = tt
 all_left (Some all) bytes none = ap (λ (t : List ℕ). t ++ all) (sym none)

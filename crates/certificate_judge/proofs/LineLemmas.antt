@@ -34,7 +34,3 @@ explained error (Version given) kinds s (inl memory) =
 explained error (Version given) kinds s (inr among) = (ap kind_of s.0 ∙ s.1, subst (λ (k : ErrorKind). IsAmong k kinds) s.1 among)
 explained error (Refused given) kinds s (inl memory) = absurd (s.1 memory)
 explained error (Refused given) kinds s (inr among) = rw s.0 (s.2, s.3, s.1, among)
-
--- a fault of some kind is a fault
-pub not_none : (k : ErrorKind) (kinds : Kinds) → IsAmong k kinds → kinds ≢ []
-not_none k kinds among none = absurd (subst (IsAmong k) none among)

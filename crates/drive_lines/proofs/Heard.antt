@@ -1,29 +1,6 @@
 -- What was read of a host.
-use Rattle.std.proofs.Common.{
-  ◌≢◌,
-  ◌∙◌,
-  inl,
-  inr,
-  codes,
-  ℕ,
-  List,
-  [],
-  ◌∷◌,
-  ◌++◌,
-  Option,
-  Some,
-  None,
-  Result,
-  Ok,
-  Err,
-  OnErr,
-  sym,
-  ap,
-  subst,
-  append_assoc,
-  append-nil,
-}
-use Rattle.std.specs.Io.KnownBytes.{Consumes, IsAtEnd}
+use Rattle.std.proofs.Common.{◌≢◌, ◌∙◌, inl, inr, codes, ℕ, List, [], ◌∷◌, ◌++◌, Option, Some, None, Result, Ok, Err, OnErr, sym, ap, append_assoc, append-nil}
+use Rattle.std.specs.Io.KnownBytes.{Consumes}
 use Rattle.std.specs.List.{flat_map}
 use Rattle.std.proofs.lemmas.List.Concat.{flat_map-append}
 use Rattle.std.proofs.lemmas.List.Elements.{All-push}
@@ -40,15 +17,6 @@ module _ {R : Type 0} (remaining : R → Option (List ℕ)) (a b c : HostBytes R
     now.1 ∙ ap (λ (t : List ℕ). t ++ more)
         before.1 ∙ append_assoc a.taken bytes more,
   )
-
-  pub taken_none : HasTaken remaining a b bytes → HasTaken remaining b c [] → HasTaken remaining a c bytes
-  taken_none before now = subst (λ (t : List ℕ). HasTaken remaining a c t) (append-nil bytes) (taken_more [] before now)
-
--- what was left before and is all taken
-pub all_left : (known left : Option (List ℕ)) (bytes : List ℕ) → Consumes known left bytes → IsAtEnd left → AreAllKnown known bytes
-all_left None left bytes took ends = tt
-all_left (Some xs) None bytes took ends = absurd took
-all_left (Some xs) (Some ys) bytes took ends = took ∙ ap (λ (t : List ℕ). bytes ++ t) ends ∙ append-nil bytes
 
 all_after : (known left : Option (List ℕ)) (front piece : List ℕ) → Consumes known left front → AreAllKnown left piece → AreAllKnown known (front ++ piece)
 all_after None left front piece took all = tt

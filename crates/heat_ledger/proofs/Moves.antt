@@ -1,33 +1,17 @@
 -- Each move keeps the rule.
-use Rattle.std.proofs.Common.{◌≡◌, ◌≢◌, ℕ, zero, suc, ◌+◌, ◌*◌, ◌≤◌, List, [], ◌∷◌, ◌++◌, set, true, false, true≢false, refl, sym, ap, ◌∙◌, subst, ⊎_elim, arith}
-use mathlib.Core.Option.{some, some-ne-none, some-injective}
+use Rattle.std.proofs.Common.{◌≡◌, ◌≢◌, ℕ, ◌+◌, ◌*◌, ◌≤◌, List, [], ◌∷◌, ◌++◌, set, true, false, true≢false, refl, sym, ap, ◌∙◌, subst, ⊎_elim, arith}
+use mathlib.Core.Option.{some}
 use lib.ListN.{get_elem?}
 use Rattle.atomic_table.specs.Table.{Step, Me, Act, Allows, Splits, Joins}
 use Rattle.atomic_table.proofs.Lists.{at_set, at_snoc, set_again}
 use Rattle.heat_ledger.specs.declared.tally.TokenState.{TokenState}
 use Rattle.heat_ledger.specs.Rows.{at}
-use Rattle.heat_ledger.specs.Tally.{sum_over, share_state, authority_state, all_parts, most, IsBalanced, IsBalancedTable, both_of, after_issue, CanIssue, IsLearned, Learns}
+use Rattle.heat_ledger.specs.Tally.{sum_over, share_state, most, IsBalanced, IsBalancedTable, both_of, after_issue, CanIssue, IsLearned, Learns}
 use Rattle.heat_ledger.proofs.RowLemmas.{at_sums}
 use Rattle.heat_ledger.proofs.Totals.{total_set, total_snoc, total_get, total_scaled}
 
 off : (v : TokenState) → v.has_totals ≡ false → v.has_totals ≡ true → ⊥
 off v n y = true≢false (sym y ∙ n)
-
-pub begins : IsBalanced (authority_state all_parts [] ∷ [])
-begins = record {
-  token = 0;
-  whole = refl;
-  sums = one;
-  backed = two;
-}
-  where
-    one : (by : ℕ) (v : TokenState) → get_elem? (authority_state all_parts [] ∷ []) by ≡ some v → v.has_totals ≡ true → (by ≡ 0) × ((k : ℕ) → sum_over (λ u. at u.amounts k) (authority_state all_parts [] ∷ []) ≡ at v.totals k)
-    one zero v e y = (refl, λ k. ap (λ (u : TokenState). at u.totals k) (some-injective (authority_state all_parts []) v e))
-    one (suc by) v e y = absurd (some-ne-none v (sym e))
-
-    two : (by : ℕ) (v : TokenState) → get_elem? (authority_state all_parts [] ∷ []) by ≡ some v → (k : ℕ) → at v.amounts k ≤ v.parts * most
-    two zero v e k = subst (λ (u : TokenState). at u.amounts k ≤ u.parts * most) (some-injective (authority_state all_parts []) v e) (omega arith)
-    two (suc by) v e k = absurd (some-ne-none v (sym e))
 
 -- a new token with these amounts, of which the authority's totals know
 pub issues : (id : ℕ) (v : TokenState) (parts : ℕ) (amounts rest extra : List ℕ) → CanIssue parts amounts rest extra v → (views : List TokenState) → IsBalanced views → get_elem? views id ≡ some v → IsBalanced (set views id (after_issue parts rest extra v) ++ share_state parts amounts ∷ [])

@@ -1,5 +1,5 @@
 -- From what is wrong with a file to why a folder is not read.
-use Rattle.std.proofs.Common.{◌≡◌, ◌∙◌, ◌&&◌, ℕ, Bool, List, Option, Result, Ok, Err, IfErr, OnErr, ap, codes, false, is_some, refl, subst, sym, true}
+use Rattle.std.proofs.Common.{◌≡◌, ◌∙◌, ◌&&◌, ℕ, Bool, List, Option, Result, Ok, Err, OnErr, ap, codes, false, is_some, refl, subst, sym, true}
 use Rattle.std.specs.List.{IsAmong}
 use Rattle.std.specs.Prelude.{string_bytes}
 use Rattle.ceph_dumps.specs.declared.listing.ListedDir.{ListedDir}
@@ -22,9 +22,6 @@ use Rattle.mdbal_ceph.specs.declared.no_result.NoResult.TheVariants as why
 pub on_err : {T E : Type 0} (r : Result T E) (P : Type 0) → P → OnErr r P
 on_err (Ok x) P p = tt
 on_err (Err e) P p = p
-
-pub if_err : {T E : Type 0} (r : Result T E) (P : E → Type 0) (e : E) → r ≡ Err e → P e → IfErr r P
-if_err r P e is p = subst (λ s. IfErr s P) (sym is) p
 
 -- what is wrong with a file is wrong in another way
 pub named_weaker : (name : List ℕ) (P Q : FileFault → Type 0) (e : NoResult) → ((one : FileFault) → P one → Q one) → IsNamedBy name P e → IsNamedBy name Q e

@@ -1,5 +1,5 @@
 -- What it says of the parts that a change has no cause to be refused.
-use Rattle.std.proofs.Common.{◌≡◌, ◌≢◌, ℕ, zero, suc, ℤ, ◌+◌, ◌<◌, Bool, true, false, not, ◌==◌, if◌then◌else◌, nat_le, List, [], ◌∷◌, length, length-append, Option, Some, None, IsSome, refl, rules, ap, ◌∙◌, inl, inr, arith}
+use Rattle.std.proofs.Common.{◌≡◌, ◌≢◌, ℕ, zero, suc, ℤ, ◌+◌, ◌<◌, Bool, true, false, ◌==◌, if◌then◌else◌, nat_le, List, [], ◌∷◌, length, length-append, Option, Some, None, IsSome, refl, rules, ap, ◌∙◌, inl, inr, arith}
 use Rattle.std.proofs.lemmas.Bool.Decides.{nat_tests}
 use Rattle.dirtree.specs.declared.tree_error.TreeError.{TreeError}
 use Rattle.dirtree.specs.declared.tree_error.TreeError.TheVariants as tree_error
@@ -81,14 +81,6 @@ may_adopt s plan h = on s.opened (no_cause s (Adopt plan) h)
 
 pub may_pin : (s : State) (d : ℕ) (value : ℤ) → refusal s (change.Pin d value) ≡ None → pins.pin_refusal s.pins.active s.directories.entries d value ≡ None
 may_pin s d value h = pin_none (pins.pin_refusal s.pins.active s.directories.entries d value) (no_cause s (change.Pin d value) h)
-
-pub gone_there : (t : tree.Directories) (d : ℕ) → tree.remove_refusal t d ≡ None → tree.is_there t.entries d ≡ true
-gone_there t d h = on (d == 0) (tree.is_there t.entries d) refl h
-  where
-    on : (b c : Bool) → tree.is_there t.entries d ≡ c → (if b then Some tree_error.IsRoot else if not c then Some tree_error.NoDir else if tree.has_child t.entries d then Some tree_error.NotEmpty else None) ≡ None → tree.is_there t.entries d ≡ true
-    on true c is h = absurd (cc)
-    on false true is h = is
-    on false false is h = absurd (cc)
 
 pub may_open : (s : State) → refusal s Open ≡ None → 0 < rank_count (usable s)
 may_open s h = on (rank_count (usable s)) refl (no_cause s Open h)

@@ -195,21 +195,6 @@ inner_parents w (Stop r) h = refl
 inner_parents w (Restart r) h = refl
 inner_parents w (Ask x) h = refl
 
--- an event that isn't a notification makes the map name nobody
-pub unnamed : (w : World) (e : Event) → is_inner e ≡ true → ((x : ℕ) → e ≢ Notify x) → map_change w e ≡ []
-unnamed w (Made p) h other = absurd (cc)
-unnamed w (Gone d) h other = absurd (cc)
-unnamed w (Begin r d) h other = absurd (cc)
-unnamed w (End t) h other = refl
-unnamed w (Start from to dirs) h other = refl
-unnamed w (Deliver m) h other = refl
-unnamed w (Froze x) h other = refl
-unnamed w (Notify x) h other = absurd (other x refl)
-unnamed w (Abort x) h other = refl
-unnamed w (Stop r) h other = refl
-unnamed w (Restart r) h other = refl
-unnamed w (Ask x) h other = refl
-
 -- a notification that may come is of an export that was started
 pub notifies : (w : World) (x : ℕ) → machine.refusal w (Notify x) ≡ None → x < length w.orders
 unfolding machine.refusal machine.causes

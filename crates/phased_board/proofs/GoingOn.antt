@@ -11,7 +11,7 @@ use Rattle.export_rounds.specs.Asked.{AreAsked, is_begun}
 use Rattle.export_rounds.specs.Going.{IsOfKind, WentOnBy, added, is_of_requests}
 use Rattle.export_rounds.specs.declared.standing.Standing.{Standing}
 use Rattle.export_rounds.proofs.Asking.{Grows, all_grow}
-use Rattle.export_rounds.proofs.Going.{answered, joins, longer, map_published, publish_kept, publish_same, stays, wider}
+use Rattle.export_rounds.proofs.Going.{answered, joins, longer, map_published, publish_kept, publish_same, wider}
 use Rattle.export_rounds.proofs.ByKind.{head_has, tail_have}
 use Rattle.phased_board.proofs.Requests.{by_requests}
 use Rattle.export_rounds.proofs.Ordering.{none_started, started_by}
@@ -47,11 +47,6 @@ answer_tickets r x n old new c (Ok reply) is a =
     let same = ap (λ (w : World). length w.state.cluster.tickets) a.3 in
     let more = kind_tickets r x n old.state c is in omega arith
 answer_tickets r x n old new c (Err error) is a = let same = ap (λ (w : World). length w.state.cluster.tickets) a.1 in omega arith
-
--- The first board.
-pub begins : (r x : Bool) (first : World) (orders : List Order) (standings : List Standing) → AreAsked first first orders standings → count_by is_begun standings ≡ 0
-    → IsOnTheWay r x first orders first standings 0
-begins r x first orders standings asked none = record { went = stays r x first; asked = asked; counted = omega arith; given = omega arith }
 
 -- an answered change that starts no export
 pub answers_on : (r x : Bool) (first : World) (orders : List Order) (old : World) (standings : List Standing) (given : ℕ) (c : Change) (reply : Result Answer BoardError) (new : World)

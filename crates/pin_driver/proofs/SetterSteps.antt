@@ -167,9 +167,6 @@ rests x s h a i kept =
       record { mark = i.1.mark; stored = i.1.stored; looks = i.1.looks; unknown = i.1.unknown },
     )
 
-min_within : (a b c n : ℕ) → b ≤ n → max b (min n c) ≤ n
-min_within a b c n h = omega arith
-
 pub begins : (x : Task) (s : SetterState) (h : List Exchange) → Live x s h → (c : ClusterState) × (s.cluster ≡ Some c) →
     standing_mark x.first (last_stored h) ≡ s.mark → looks_in_place h ≡ 0 → Is x (begin_batch x s) h
 begins x s h live known standing fresh = (

@@ -1,49 +1,11 @@
 -- What a part moves is what it has, less what the rank has of it now.
-use Rattle.std.proofs.Common.{◌≡◌, ◌≢◌, ◌∙◌, ◌+◌, ◌*◌, ◌<◌, ◌≤◌, ap, cond, eqb, leb, set, sym, ℕ, Bool, true, false, ◌&&◌, List, get_or, length, slice_index, refl, arith, ⊎_elim, get_or-set_other, get_or-set_same}
-use Rattle.std.proofs.lemmas.Bool.{cases_eq, le-leb, eq-eqb, eqb-true, and_from, and_parts, false_from_ne_true}
-use Rattle.std.proofs.lemmas.List.{get_or_default}
-use Rattle.std.proofs.lemmas.Nat.{same_from_place}
+use Rattle.std.proofs.Common.{◌≡◌, ◌≢◌, ◌∙◌, ◌+◌, ◌*◌, ◌<◌, ◌≤◌, ap, cond, eqb, sym, ℕ, Bool, true, false, ◌&&◌, List, length, slice_index, refl, arith, ⊎_elim}
 use Rattle.mds_types.specs.declared.problem.ProblemRow.{ProblemRow}
 use Rattle.mds_types.specs.Problem.{inodes_at, now_at}
 use Rattle.mds_types.specs.Placing.{cost, moved_at}
 use Rattle.mds_types.specs.Sums.{sum_below}
 use Rattle.mds_types.proofs.SumsLemmas.{sum_below-le, sum_below-term, sum_below-fewer, sum_below_more, sum_below-same, sum_below-add, sum_below-swap, sum_below-pick, sum_below-zero}
-use Rattle.plan_checker.specs.Costs.{own_between, own_inodes, part_total}
-
--- one more row
-pub own_step :
-    (rows : List ProblemRow) (label : ℕ → ℕ) (cells : List ℕ) (from i part r p now inodes old : ℕ) → from ≤ i → p ≡ label i
-    → now ≡ now_at rows i → inodes ≡ inodes_at rows i → r < 64 → now < 64 → p * 64 + now < length cells
-    → old ≡ get_or cells (p * 64 + now) old → slice_index cells (part * 64 + r) ≡ own_between rows label from i part r
-    → slice_index (set cells (p * 64 + now) (old + inodes)) (part * 64 + r) ≡ own_between rows label from (i + 1) part r
-own_step rows label cells from i part r p now inodes old later p_is now_is inodes_is r_small now_small inside read before =
-    let test = eqb (label i) part && eqb (now_at rows i) r in
-    let whole = sum_below_more i (λ j. cond (leb from j && (eqb (label j) part && eqb (now_at rows j) r)) (inodes_at rows j) 0) in
-    let more = rw (le-leb from i later) at whole in
-    ⊎_elim
-    (λ (same : part * 64 + r ≡ p * 64 + now).
-    let both = same_from_place part r p now 64 r_small now_small same in
-    let there : slice_index (set cells (p * 64 + now) (old + inodes)) (part * 64 + r) ≡ old + inodes =
-    rw same (get_or-set_same cells (p * 64 + now) (old + inodes) 0 inside) in
-    let was : old ≡ slice_index cells (part * 64 + r) =
-    read ∙ (get_or_default cells (p * 64 + now) old 0 inside ∙ ap (slice_index cells) (sym same)) in
-    let own : test ≡ true =
-    and_from (eqb (label i) part) (eqb (now_at rows i) r) (eq-eqb (label i) part (sym p_is ∙ sym both.0))
-    (eq-eqb (now_at rows i) r (sym now_is ∙ sym both.1)) in
-    let step = rw own at more in
-    omega arith)
-    (λ (other : part * 64 + r ≢ p * 64 + now).
-    let there : slice_index (set cells (p * 64 + now) (old + inodes)) (part * 64 + r) ≡ slice_index cells (part * 64 + r) =
-    get_or-set_other cells (p * 64 + now) (part * 64 + r) (old + inodes) 0 other in
-    let not_own : test ≡ false =
-    false_from_ne_true test (λ own.
-    let parts = and_parts (eqb (label i) part) (eqb (now_at rows i) r) own in
-    let at_p : part ≡ p = sym (eqb-true (label i) part parts.0) ∙ sym p_is in
-    let at_now : r ≡ now = sym (eqb-true (now_at rows i) r parts.1) ∙ sym now_is in
-    other (omega arith)) in
-    let step = rw not_own at more in
-    omega arith)
-    (cases_eq (part * 64 + r) (p * 64 + now))
+use Rattle.plan_checker.specs.Costs.{own_inodes, part_total}
 
 -- the inodes of a part
 abbrev pub part_inodes : List ProblemRow → (ℕ → ℕ) → ℕ → ℕ

@@ -6,4 +6,3 @@ pub mod LineSame
 pub mod NameLemmas
 pub mod NumberLemmas
 pub mod ReadingLemmas
-pub mod TableLemmas

@@ -3,7 +3,7 @@ use Rattle.std.proofs.Common.{◌≡◌, ◌∙◌, ◌<◌, ◌≤◌, ℕ, ℤ
 use Rattle.std.proofs.lemmas.Int.{ints}
 use Rattle.std.proofs.lemmas.Bool.{cases_order, eq-eqb, eqb-true}
 use Rattle.std.proofs.lemmas.List.{get_or_append_left, get_or_push, length-append}
-use Rattle.std.proofs.lemmas.List.Elements.{All-from_get_or, All-get_or}
+use Rattle.std.proofs.lemmas.List.Elements.{All-from_get_or}
 use Rattle.mds_types.specs.declared.problem.ProblemRow.{ProblemRow}
 use Rattle.mds_types.specs.declared.cut_proof.CutProof.{CutProof}
 use Rattle.mds_types.specs.declared.dual_proof.DualProof.{DualProof}
@@ -219,15 +219,6 @@ pub ranks_usable :
     → IsPresentBest problem → All (λ r. has_rank problem.ranks r ≡ true) rank
 ranks_usable problem part rank are best =
     All-from_get_or (λ r. has_rank problem.ranks r ≡ true) rank 0 (ranks_now problem part rank are best).usable
-
--- ranks that are all in the set
-pub ranks_of :
-    (problem : ProblemData) (part rank : List ℕ) → AreRanksNow problem.rows (length problem.rows) part rank
-    → All (λ r. has_rank problem.ranks r ≡ true) rank → AreRanks problem.ranks (length rank) (slice_index rank)
-ranks_of problem part rank are all = record {
-  usable = λ p l. All-get_or (λ r. has_rank problem.ranks r ≡ true) rank p 0 l all;
-  distinct = are.distinct;
-}
 
 -- the present placement's parts have their rows where they are
 pub moves_none :

@@ -17,12 +17,6 @@ module _
   same_size : length b ≡ length a
   same_size = omega (arith, first.added.size, second.added.size)
 
-  -- the sums of the rows of both fit
-  pub room : to ≤ 65536 → (j : ℕ) → j < length a → slice_index a j + slice_index b j < 2 ^ 64
-  room few j l =
-      let there : j < length b = omega (arith, same_size, l) in
-      omega (arith, first.added.small j 0 l, second.added.small j 0 there, few, rise)
-
   pub joined :
       (new : List ℕ) → length new ≡ length a
       → ((j : ℕ) → j < length a → slice_index new j ≡ slice_index a j + slice_index b j) → AreSummed rows part count 0 to new

@@ -25,9 +25,6 @@ plus sum heat inodes = record { heat = sum.heat + heat; inodes = sum.inodes + in
 pub plus-same : (sum other : Total) (heat hot inodes many : ℕ) → sum ≡ other → heat ≡ hot → inodes ≡ many → plus sum heat inodes ≡ plus other hot many
 plus-same sum other heat hot inodes many same h i = rw (same, h, i) refl
 
-both : (heat hot inodes many : ℕ) → heat ≡ hot → inodes ≡ many → plus nothing heat inodes ≡ plus nothing hot many
-both heat hot inodes many h i = rw (h, i) refl
-
 -- a bound of each total
 pub bounded_more : (f : Total → ℕ) (totals : List Total) (size most low high part : ℕ) (more : Total) → part < length totals → part < size → f more ≤ f (get_or totals part nothing) + most → low + most ≤ high → ((p : ℕ) → p < size → f (get_or totals p nothing) ≤ low) → (p : ℕ) → p < size → f (get_or (set totals part more) p nothing) ≤ high
 bounded_more f totals size most low high part more inside within fits step before p h = elim (cases_eq p part) [
