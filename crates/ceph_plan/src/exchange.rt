@@ -83,6 +83,7 @@ fn closest_swap(ground: &Ground<'_>, lists: &[Vec<PartHeat>], least: usize) -> O
             coming: (other.part.0, ground.parts.root),
             to: least,
             greatest: here,
+            hottest: 0,
         })
     } else {
         None

@@ -45,6 +45,8 @@ pub(crate) struct Swap {
     pub to: usize,
     /// The greatest load of both ranks then.
     pub greatest: u64,
+    /// The hour in which the last one that was tried was hottest.
+    pub hottest: usize,
 }
 
 /// The load of a rank in an hour.
@@ -136,31 +138,39 @@ fn load_after(ground: &Ground<'_>, swap: Swap, hour: usize) -> u64 {
     here.saturating_sub(going).max(there.saturating_sub(coming))
 }
 
-/// The greatest load of both ranks in any hour after an exchange, as far as it is less than that of another one.
-fn greatest_after(ground: &Ground<'_>, swap: Swap) -> u64 {
-    let mut most = load_after(ground, swap, ground.hour);
+/// The greatest load of both ranks in any hour after an exchange, as far as it is less than that of another one, and
+/// the hour in which it is. `first` is tried first.
+fn greatest_after(ground: &Ground<'_>, swap: Swap, first: usize) -> (u64, usize) {
+    let mut most = load_after(ground, swap, first);
+    let mut hottest = first;
     for hour in 0..ground.parts.hours.len() {
         if most >= swap.greatest {
-            return most;
+            break;
         }
-        most = load_after(ground, swap, hour).max(most);
+        let load = load_after(ground, swap, hour);
+        if load > most {
+            most = load;
+            hottest = hour;
+        }
     }
-    most
+    (most, hottest)
 }
 
-/// The better of two exchanges.
+/// The better of two exchanges. The hour that one is too hot in is likely to tell of the next one.
 fn better(ground: &Ground<'_>, best: Swap, swap: Swap) -> Swap {
-    let greatest = greatest_after(
-        ground,
-        Swap {
-            greatest: best.greatest,
-            ..swap
-        },
-    );
+    let limit = Swap {
+        greatest: best.greatest,
+        ..swap
+    };
+    let (greatest, hottest) = greatest_after(ground, limit, best.hottest);
     if greatest < best.greatest {
-        Swap { greatest, ..swap }
+        Swap {
+            greatest,
+            hottest,
+            ..swap
+        }
     } else {
-        best
+        Swap { hottest, ..best }
     }
 }
 
@@ -191,6 +201,7 @@ fn none_with(ground: &Ground<'_>, to: usize) -> Swap {
         coming: (root, root),
         to,
         greatest: load_in(ground.table, ground.hour, ground.most),
+        hottest: ground.hour,
     }
 }
 
