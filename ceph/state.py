@@ -4,9 +4,9 @@
   own        the list of these pins; two lines of a directory that may have either. It is read where there is no plan, with pending,
              in which earlier versions kept the pin that was being set
   rounds/N   dumps, own (of before), report, plan.json, pins.sh, pins.sh.back, pins.sh.own, pins.sh.plan, log (all that mdbal_drive
-             asked); after the last pin check (dumps without loads), held (what mdbal_ceph --check says of them), and empty
+             asked), waits (what was said of records that it made while it waited); after the last pin check (dumps without loads), held (what mdbal_ceph --check says of them), and empty
              (directories that move once they have an entry)
-  hours/N    the heat of round N, as mdbal_ceph --record writes it; those of the last 168 rounds
+  hours/N    the heat of round N, as mdbal_ceph --record writes it, and hours/N.K what it recorded while it waited; the last 168
   history    a line a round: time, round, status, what happened
 """
 import fcntl
@@ -18,13 +18,13 @@ import signal
 import subprocess
 import sys
 import time
-from typing import Any, Dict, List, Set, Tuple
+from typing import Any, Callable, Dict, List, Set, Tuple
 
 from host import unescaped
 
 HERE = os.path.dirname(os.path.realpath(__file__))
 SIGNALS = (signal.SIGHUP, signal.SIGINT, signal.SIGTERM)
-HOURS = 168  # of so many rounds the heat is kept
+HOURS = 168  # so many records of the heat are kept
 Pins = Dict[bytes, List[bytes]]  # the ranks of a directory's pin, by its path as in lists of pins
 
 
@@ -86,12 +86,17 @@ def settled(pins: Pins, dumps: str) -> Pins:
     return {place: [it for it in ranks if len(ranks) == 1 or found.get(place, it) == it][-1:] for place, ranks in pins.items()}
 
 
+def records(state: str) -> List[str]:
+    """The records of the heat, oldest first."""
+    names = sorted(os.listdir(f"{state}/hours"), key=lambda it: [int(number) for number in it.split(".")])
+    return [f"{state}/hours/{it}" for it in names]
+
+
 def past_hours(state: str, dumps: str) -> List[str]:
-    """The records of the heat of earlier rounds, oldest first. One that has none of the directories that are there now is left out."""
+    """The records of the heat, oldest first. One that has none of the directories that are there now is left out."""
     with open(f"{dumps}/dirs", "rb") as it:
         known = {b"/" + line[8:].rstrip(b"\n") for line in it if line.startswith(b"# file: ")}
-    found = [f"{state}/hours/{number}" for number in sorted(map(int, os.listdir(f"{state}/hours")))]
-    return [it for it in found if is_of(it, known)]
+    return [it for it in records(state) if is_of(it, known)]
 
 
 def is_of(record: str, known: Set[bytes]) -> bool:
@@ -100,11 +105,11 @@ def is_of(record: str, known: Set[bytes]) -> bool:
         return any(line.rstrip(b"\n").partition(b" ")[2] in known for line in it)
 
 
-def keep_hour(state: str, record: str, number: int) -> None:
-    """Keeps the record of a round's heat, and those of the last rounds."""
-    os.rename(record, f"{state}/hours/{number}")
-    for old in sorted(map(int, os.listdir(f"{state}/hours")))[:-HOURS]:
-        os.remove(f"{state}/hours/{old}")
+def keep_hour(state: str, record: str, name: str) -> None:
+    """Keeps a record of the heat by this name, and the last ones."""
+    os.rename(record, f"{state}/hours/{name}")
+    for old in records(state)[:-HOURS]:
+        os.remove(old)
 
 
 class Stopped(Exception):
@@ -119,27 +124,33 @@ class Round:
         self.earlier = sorted(map(int, os.listdir(f"{self.state}/rounds")), reverse=True)
         self.number = max(self.earlier, default=0) + 1
         self.folder, self.plan = f"{self.state}/rounds/{self.number}", f"{self.state}/plan"
-        self.of_mount = ["--mount", asked.mount, "--timeout", str(asked.timeout)]
+        self.limit = ["--timeout", str(asked.timeout)]
+        self.of_mount = ["--mount", asked.mount, *self.limit]
         os.mkdir(self.folder)
 
     def carry_out(self) -> Tuple[int, str]:
         """The status, and what happened."""
         raise NotImplementedError
 
-    def run(self, *words: str, out: str = os.devnull) -> int:
-        """The status of a step, which ends with the round. What it prints goes to a file of the round, what it says to the log."""
-        with open(os.path.join(self.folder, out), "wb") as printed, open(f"{self.folder}/log", "ab") as log:
-            made = subprocess.Popen(words, stdin=subprocess.DEVNULL, stdout=printed, stderr=log)
+    def run(self, *words: str, out: str = os.devnull, log: str = "log", meanwhile: Callable[[], None] = lambda: None) -> int:
+        """The status of a step, which ends with the round. What it prints goes to a file of the round, what it says to the log. While it
+        runs, `meanwhile` is called each second."""
+        with open(os.path.join(self.folder, out), "wb") as printed, open(os.path.join(self.folder, log), "ab") as said:
+            made = subprocess.Popen(words, stdin=subprocess.DEVNULL, stdout=printed, stderr=said)
             try:
-                return made.wait()
+                while True:
+                    try:
+                        return made.wait(1)
+                    except subprocess.TimeoutExpired:
+                        meanwhile()
             finally:
                 made.terminate()
                 made.wait()
 
-    def collect(self, name: str, *words: str) -> int:
+    def collect(self, name: str, *words: str, log: str = "log") -> int:
         """Collects into a folder of the round, anew where it is there."""
         shutil.rmtree(f"{self.folder}/{name}", ignore_errors=True)
-        return self.run(f"{HERE}/collect", self.asked.fs, f"{self.folder}/{name}", *self.of_mount, *words)
+        return self.run(f"{HERE}/collect", self.asked.fs, f"{self.folder}/{name}", *words, log=log)
 
     def said(self, begin: str = "", file: str = "log") -> str:
         """The last line of a file of the round that begins so; empty where there is none."""

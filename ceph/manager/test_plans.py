@@ -53,7 +53,7 @@ class Plans(OnSample):
         self.do("plan")
         told = self.record().planned.plan.told["hours"]
         self.assertEqual([it["name"].rpartition("/")[2] for it in told if it["seen"]][1:3], ["hour.1000", "hour.2000"])
-        self.module.options["hours"] = 1
+        self.module.options.update(hours=1, made=0)
         self.do("plan")
         self.assertLessEqual(len(self.record().planned.plan.told.get("hours", [])), 1)
 
@@ -68,7 +68,7 @@ class Plans(OnSample):
             shutil.copytree(SAMPLE, f"{room}/dumps")
             with open(f"{room}/dumps/balancer", "w", encoding="ascii") as it:
                 it.write("10\nbalance_automate false\n")
-            programs.run([f"{room}/dumps", "--most-pins", "1000", "--pins", f"{room}/pins"], 60, (0,))
+            programs.run([f"{room}/dumps", "--made", "12", "--most-pins", "1000", "--pins", f"{room}/pins"], 60, (0,))
             with open(f"{room}/pins.plan", encoding="ascii") as it:
                 wanted = read_plan(it.read())
         found = read_plan(plan.planned.plan.text)

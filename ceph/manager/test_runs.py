@@ -6,6 +6,7 @@ import time
 
 from on_sample import OnSample
 
+from mdbal.hours import unpacked
 from mdbal.module import Job
 from mdbal.state import State
 from mdbal.texts import read_plan
@@ -160,6 +161,19 @@ class Runs(OnSample):
         self.module.options.update(wait=20, batch=1)
         # the driver counts the seconds that it asks to wait, so this takes none
         self.stopped("stopped too-slow")
+
+    def test_heat_is_recorded_while_a_run_waits(self) -> None:
+        for cached, recorded in ((100, True), (200001, False)):  # and what keeps it from being read stops no run
+            self.setUp()
+            name = self.planned()
+            for key in [it for it in self.cluster.kept if it.startswith("fs.7.hour.")]:
+                del self.cluster.kept[key]
+            self.cluster.slow_looks, self.cluster.cached = 2, cached
+            self.module.options.update(interval=0, batch=1)
+            self.do("apply", name)
+            self.assertEqual(self.record().state.ended, "done")
+            hours = [unpacked(it) for key, it in self.cluster.kept.items() if key.startswith("fs.7.hour.")]
+            self.assertEqual((bool(hours), all(it.count(b" /w/p0") > 5 for it in hours)), (recorded, True))
 
     def test_no_monitors_within_a_run(self) -> None:
         def lose(path: bytes) -> None:

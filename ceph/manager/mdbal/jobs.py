@@ -29,6 +29,7 @@ class Work:
     def __init__(self, mgr: Any, record: Record, cluster: Cluster) -> None:
         self.mgr, self.record, self.cluster = mgr, record, cluster
         self.limit = float(mgr.get_module_option('program_limit'))
+        self.recorded = time.monotonic()  # when the heat was recorded last
 
     def rest(self, seconds: float) -> None:
         """Waits. Raises Stop where the manager shuts down, or `off` was asked for."""
@@ -42,10 +43,36 @@ class Work:
             if seconds <= 0:
                 return
 
+    def rest_of_run(self, seconds: float) -> None:
+        """Waits for what moves. A run may take longer than a round, and the heat is recorded meanwhile, too."""
+        if seconds and time.monotonic() >= self.recorded + float(self.mgr.get_module_option('interval')):
+            self.record_hour()
+        self.rest(seconds)
+
     def say(self, doing: str) -> None:
         self.mgr.say(self.record.name, doing)
 
     # Plan and check
+
+    def read_heat(self, collector: Collector) -> None:
+        collector.dumps(int(self.mgr.get_module_option('samples')), float(self.mgr.get_module_option('pause')),
+                        int(self.mgr.get_module_option('most_directories')))
+
+    def record_hour(self) -> None:
+        """Records the heat, for later plans. What goes wrong with that stops no run."""
+        folder = tempfile.mkdtemp(prefix=self.mgr.room())
+        try:
+            collector = Collector(self.cluster, folder, self.rest, lambda doing: None)
+            self.read_heat(collector)
+            collector.end()
+            Hours(self.mgr, self.record.number).keep(programs.hour(folder, self.limit), int(time.time()))
+        except Stop:
+            raise
+        except Trouble as trouble:
+            self.mgr.log.info('%s: the heat is not recorded: %s', self.record.name, trouble)
+        finally:
+            self.recorded = time.monotonic()
+            shutil.rmtree(folder, ignore_errors=True)
 
     def own(self) -> Dict[bytes, int]:
         """The pins that are there by this program."""
@@ -77,8 +104,7 @@ class Work:
             own, list_of_own = self.own(), os.path.join(folder, 'own')
             write(folder, 'own', pins_list(own))
             collector = Collector(self.cluster, folder, self.rest, self.say)
-            collector.dumps(int(self.mgr.get_module_option('samples')), float(self.mgr.get_module_option('pause')),
-                            int(self.mgr.get_module_option('most_directories')))
+            self.read_heat(collector)
             paths = programs.paths_of(folder, list_of_own, self.limit)
             entries = collector.listing(paths)
             collector.end()
@@ -87,9 +113,10 @@ class Work:
             hours = Hours(self.mgr, self.record.number)
             count = int(self.mgr.get_module_option('hours'))
             past = hours.write(folder, [listed(it) for it in paths]) if count > 1 else []
-            words = ['--hours', str(count)] + self.options(folder)
+            words = ['--hours', str(count), '--made', str(int(self.mgr.get_module_option('made')))] + self.options(folder)
             plan = programs.plan(past, folder, list_of_own, words, self.limit)
             hours.keep(plan.hour, int(time.time()))
+            self.recorded = time.monotonic()
         finally:
             shutil.rmtree(folder, ignore_errors=True)
         self.record.take_plan(Planned(plan, time.time(), self.cluster.word()))
@@ -187,7 +214,7 @@ class Work:
             options += [word, str(int(self.mgr.get_module_option(name)))]
         run = Run(self, what, text.count('\nchange '))
         try:
-            ended = programs.drive(what, text, options, Host(self.cluster, self.rest, run.store, run.note))
+            ended = programs.drive(what, text, options, Host(self.cluster, self.rest_of_run, run.store, run.note))
         except Trouble as trouble:
             if self.mgr.is_ending.is_set():
                 raise  # another manager finds that it did not end
@@ -210,7 +237,7 @@ class Work:
                 if not self.record.not_held or left <= 0:
                     return held
                 self.say('waits: {}'.format(held))
-                self.rest(PAUSE)
+                self.rest_of_run(PAUSE)
                 left -= PAUSE
         except Trouble as trouble:
             self.record.held = 'not checked: {}'.format(trouble)

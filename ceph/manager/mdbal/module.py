@@ -50,6 +50,8 @@ class Module(MgrModule):
         Option('pause', type='secs', default=3, runtime=True, desc='seconds between two samples'),
         Option('hours', type='uint', default=24, min=1, max=32, runtime=True,
                desc='plan for so many hours: now, and the most different of those that are recorded; 1: for now alone'),
+        Option('made', type='uint', default=12, max=31, runtime=True,
+               desc='plan for so many made hours, too, in each of which half of the load is on the directories below one; 0: for none'),
         Option('least_gain', type='uint', default=5, max=100, runtime=True,
                desc='propose nothing if the hottest rank gets cooler by fewer percent'),
         Option('least_heat', type='uint', default=0, runtime=True,

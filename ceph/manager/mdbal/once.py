@@ -4,8 +4,9 @@ from typing import Any, Callable, List
 from .cluster import Cluster
 from .texts import NO_PIN, Change, PlanText, Trouble, escaped
 
-BATCH = 100  # directories that move at once
-PASSES = 3   # a directory that stays while the one above it moves, goes with it, and comes back in the next pass
+BATCH = 100      # directories that move at once
+PASSES = 3       # a directory that stays while the one above it moves, goes with it, and comes back in the next pass
+PATIENCE = 30.0  # seconds in which one that was asked to move comes to its rank, or at least another one does
 SHOWN = 3
 
 
@@ -31,12 +32,15 @@ class Trial:
             if not away:
                 break
             self.refused = []
+            asked = []  # type: List[Change]
             for place, change in enumerate(away):
                 self.rest(0)
                 self.say('moves directories, {} of {} in pass {}'.format(place, len(away), number + 1))
-                self._export(change, rank_in(ranks, change.path))
+                if self._is_asked(change, rank_in(ranks, change.path)):
+                    asked.append(change)
                 if place % BATCH == BATCH - 1 or place == len(away) - 1:
-                    self._settle(poll, wait)
+                    self._settle(asked, poll, wait)
+                    asked = []
         away = self._away(changes)
         said = '{} of {} directories are at their ranks, without pins: one that cools down goes back with the one above it'.format(
             len(changes) - len(away), len(changes))
@@ -47,23 +51,30 @@ class Trial:
         ranks = self.cluster.subtree_ranks()
         return [it for it in changes if it.after != NO_PIN and rank_in(ranks, it.path) != it.after]
 
-    def _export(self, change: Change, at: int) -> None:
+    def _is_asked(self, change: Change, at: int) -> bool:
+        """Asks its rank to move a directory. Whether that rank will try."""
         try:
             said = self.cluster.told(at, 'export dir', path=change.path.decode(), rank=change.after)
         except UnicodeDecodeError:
             self.refused.append('{} is not UTF-8'.format(escaped(change.path)))
-            return
+            return False
         if said.get('return_code'):
             self.refused.append('{}: {}'.format(escaped(change.path), said))
+            return False
+        return True
 
-    def _settle(self, poll: float, wait: float) -> None:
-        left = wait
-        while True:
+    def _settle(self, asked: List[Change], poll: float, wait: float) -> None:
+        """Waits until these are at their ranks, or nothing moves any more. What a rank has only begun, no list of roots shows."""
+        left, patience, away = wait, PATIENCE, len(asked)
+        while away:
             self.rest(poll)
-            left -= poll
-            if self.cluster.are_in_place():
+            left, patience = left - poll, patience - poll
+            count = len(self._away(asked))
+            if count < away:
+                patience, away = PATIENCE, count
+            elif patience <= 0 and self.cluster.are_in_place():
                 return
-            if left <= 0:
+            if away and left <= 0:
                 raise Trouble('directories still move after {:.0f} seconds'.format(wait))
 
 

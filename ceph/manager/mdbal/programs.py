@@ -63,6 +63,14 @@ def plan(past: List[str], folder: str, own: str, options: List[str], limit: floa
         return Plan(id_of(plan_text), plan_text, status == DONE, json.loads(text.decode('utf-8')), report, record.read())
 
 
+def hour(folder: str, limit: float) -> bytes:
+    """The record of the heat of a folder, which needs no listing."""
+    name = os.path.join(folder, 'hour')
+    run([folder, '--record', name], limit, (DONE, NOTHING))
+    with open(name, 'rb') as record:
+        return record.read()
+
+
 def check(folder: str, own: str, limit: float) -> Tuple[bool, List[str]]:
     """Whether all pins of the list hold; the lines that say so."""
     status, text = run([folder, '--check', own], limit, (DONE, NOT_HELD))
