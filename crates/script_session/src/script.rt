@@ -1,6 +1,6 @@
 //! A whole script from a reader, with its answers to a writer.
 ghost use Rattle.std.specs.Option.{option_and_then};
-ghost use Rattle.std.specs.Prelude.{◌≡◌, ◌≤◌, [], Err, Ok, IsErrOf, vec_len};
+ghost use Rattle.std.specs.Prelude.{◌≡◌, ◌≤◌, [], Err, None, Ok, IsErrOf, vec_len};
 ghost use Rattle.script_engine.specs.Telling.{Tells};
 ghost use Rattle.script_session.specs.Ending.{IsRunOf};
 ghost use Rattle.script_session.specs.Session.{answers};
@@ -76,7 +76,9 @@ pub fn run<T: Threads + Wait + Sync, R: Read, W: Write, P: Write, H: Hints>(
         (option_and_then P.contents proofs.old) (option_and_then P.contents proofs.new) result }
     // Where there is no memory to begin with, no device was touched.
     ensures memory { IsErrOf result.answered RunError.Memory → (input.new ≡ input.old) × (writer.new ≡ writer.old)
-        × (proofs.new ≡ proofs.old) }
+        × (proofs.new ≡ proofs.old) × (hints.new ≡ hints.old) }
+    // Only what is asked for can fail to be written.
+    ensures unasked { proofs.old ≡ None → result.proved ≡ Ok tt }
 {
     let Ok(book) = heat_ledger::NewBook::new(alloc) else {
         return Ended::without_memory();
@@ -115,7 +117,9 @@ fn run_named<
         (W.contents writer.old) (W.contents writer.new)
         (option_and_then P.contents proofs.old) (option_and_then P.contents proofs.new) result }
     ensures memory { IsErrOf result.answered RunError.Memory → (input.new ≡ input.old) × (writer.new ≡ writer.old)
-        × (proofs.new ≡ proofs.old) }
+        × (proofs.new ≡ proofs.old) × (hints.new ≡ hints.old) }
+    // Only what is asked for can fail to be written.
+    ensures unasked { proofs.old ≡ None → result.proved ≡ Ok tt }
 {
     match MapWriter::<J, &T>::open(rt, alloc, map, options.limit, 1) {
         Ok((publisher, readers)) => run_over(
@@ -157,7 +161,9 @@ fn run_over<
         (W.contents writer.old) (W.contents writer.new)
         (option_and_then P.contents proofs.old) (option_and_then P.contents proofs.new) result }
     ensures memory { IsErrOf result.answered RunError.Memory → (input.new ≡ input.old) × (writer.new ≡ writer.old)
-        × (proofs.new ≡ proofs.old) }
+        × (proofs.new ≡ proofs.old) × (hints.new ≡ hints.old) }
+    // Only what is asked for can fail to be written.
+    ensures unasked { proofs.old ≡ None → result.proved ≡ Ok tt }
 {
     let mut readers = readers;
     let Some(reader) = readers.pop() else {

@@ -1,6 +1,6 @@
 //! A session: the board that `ranks` makes, and the lines that come before it.
 ghost use Rattle.std.specs.Prelude.{◌≡◌, ◌<◌, ◌≤◌, ◌⊎◌, ℕ, Bool, List, IfErr, IfOk, IfSome, IsErrOf};
-ghost use Rattle.std.specs.Prelude.{OnErr, OnOk, Some, None, [], length, take, false, true};
+ghost use Rattle.std.specs.Prelude.{Ok, OnErr, OnOk, Some, None, [], length, take, false, true};
 ghost use Rattle.script_commands.specs.Commands.{Ranks, asked};
 ghost use Rattle.script_commands.specs.Commands as words;
 ghost use Rattle.script_commands.specs.View.{asked_view, view};
@@ -129,8 +129,9 @@ impl<'r, J: Naming, M: Publisher<J>, R: Threads> Session<'r, J, M, R> {
 
     /// Writes the certificates of the plans that the board has adopted, where there is a writer for them.
     pub fn prove<P: Write>(&self, alloc: Global, proofs: &mut Option<P>) -> Result<(), Unwritten>
-        ensures { IsProved result
+        ensures proved { IsProved result
             (option_and_then P.contents proofs.old) (option_and_then P.contents proofs.new) self.now.board }
+        ensures unasked { proofs.old ≡ None → result ≡ Ok tt }
     {
         let Some(board) = &self.board else {
             return Ok(());
