@@ -59,17 +59,18 @@ class Work:
                         int(self.mgr.get_module_option('most_directories')))
 
     def record_hour(self) -> None:
-        """Records the heat, for later plans. What goes wrong with that stops no run."""
-        folder = tempfile.mkdtemp(prefix=self.mgr.room())
+        """Records the heat, for later plans. What goes wrong with that stops no run, but a rank that does not answer."""
+        folder = ''
         try:
+            folder = tempfile.mkdtemp(prefix=self.mgr.room())
             collector = Collector(self.cluster, folder, self.rest, lambda doing: None)
             self.read_heat(collector)
             collector.end()
             Hours(self.mgr, self.record.number).keep(programs.hour(folder, self.limit), int(time.time()))
         except Stop:
             raise
-        except Trouble as trouble:
-            self.mgr.log.info('%s: the heat is not recorded: %s', self.record.name, trouble)
+        except (Trouble, OSError, ValueError, KeyError) as why:
+            self.mgr.log.info('%s: the heat is not recorded: %s', self.record.name, why)
         finally:
             self.recorded = time.monotonic()
             shutil.rmtree(folder, ignore_errors=True)
