@@ -230,8 +230,11 @@ def home(lib: Any) -> None:
 @contextlib.contextmanager
 def heated(names: List[bytes], fs: str = "lab") -> Iterator[None]:
     """Creates and removes a file in these directories in turn, some 150 times a second, in a process of its own."""
-    load = subprocess.Popen([sys.executable, os.path.dirname(os.path.abspath(__file__)) + "/trials", "--heat", fs] + [name.hex() for name in names])
+    load = subprocess.Popen([sys.executable, os.path.dirname(os.path.abspath(__file__)) + "/trials", "--heat", fs] + [name.hex() for name in names],
+                            stdout=subprocess.PIPE)
+    assert load.stdout
     try:
+        holds("the load has begun", load.stdout.readline())  # a busy cluster takes its time until a client is mounted
         time.sleep(15)
         yield
     finally:
@@ -251,6 +254,8 @@ def heat(fs: str, names: List[bytes]) -> None:
                 lib.close(lib.open(path, os.O_CREAT | os.O_WRONLY, 0o644))
                 lib.unlink(path)
         done += 1
+        if done == 1:
+            print("begun", flush=True)
         time.sleep(max(0.0, begin_at + done * len(names) / 75 - time.time()))
 
 

@@ -9,6 +9,7 @@ import threading
 import time
 import types
 import unittest
+import unittest.mock
 import urllib.request
 from typing import Any
 
@@ -39,6 +40,13 @@ class Plans(OnSample):
     def test_plan_changes_nothing(self) -> None:
         self.assertRegex(self.do("plan"), r"^plan: plan [0-9a-f]{12}: \d+ pins to change$")
         self.assertEqual((self.cluster.sets, [it for it in self.cluster.kept if not it.startswith("fs.7.hour.")]), ([], []))
+
+    def test_why_nothing_is_proposed(self) -> None:
+        for name, value, why in (("least_heat", 10**6, "there is less heat than --least-heat asks for"),
+                                 ("least_gain", 100, "the plan gains less than is asked for")):
+            with unittest.mock.patch.dict(self.module.options, {name: value}):
+                self.assertEqual(self.do("plan"), f"plan: nothing is proposed: {why}")
+            self.assertIn("no pin changes", self.module.show("lab")[1])
 
     def test_plan_is_for_the_hours_that_were_seen(self) -> None:
         self.do("plan")

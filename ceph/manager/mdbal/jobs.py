@@ -122,7 +122,7 @@ class Work:
             shutil.rmtree(folder, ignore_errors=True)
         self.record.take_plan(Planned(plan, time.time(), self.cluster.word()))
         if not plan.is_proposed:
-            return 'nothing is proposed'
+            return plan.why_not()
         return 'plan {}: {} pins to change'.format(plan.id, len(plan.told['changes']))
 
     def judge(self, folder: str, own: Dict[bytes, int], entries: Dict[bytes, int]) -> None:

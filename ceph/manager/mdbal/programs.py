@@ -21,6 +21,10 @@ class Plan(NamedTuple):
     report: str
     hour: bytes            # the record of its heat
 
+    def why_not(self) -> str:
+        """Why nothing is proposed: the last line of the report."""
+        return self.report.rstrip().rpartition('\n')[2]
+
 
 def program(name: str) -> str:
     for folder in FOLDERS:
