@@ -95,13 +95,16 @@ def active() -> str:
 
 def start() -> None:
     subprocess.run([TOP + "/ceph/trials/cluster", "start"], check=True)
-    module = LAB + "/module/mdbal"
-    shutil.rmtree(LAB + "/module", ignore_errors=True)
-    shutil.copytree(TOP + "/ceph/manager/mdbal", module)
-    for name in ("mdbal_ceph", "mdbal_drive"):
-        shutil.copy(os.environ[name.upper()], module + "/" + name)
-    if not os.path.lexists(LAB + "/modules/mdbal"):
-        os.symlink(module, LAB + "/modules/mdbal")
+    module = "/usr/share/ceph/mgr/mdbal"  # that of the package
+    if "MDBAL_CEPH" in os.environ:
+        module = LAB + "/module/mdbal"
+        shutil.rmtree(LAB + "/module", ignore_errors=True)
+        shutil.copytree(TOP + "/ceph/manager/mdbal", module)
+        for name in ("mdbal_ceph", "mdbal_drive"):
+            shutil.copy(os.environ[name.upper()], module + "/" + name)
+    with contextlib.suppress(FileNotFoundError):
+        os.remove(LAB + "/modules/mdbal")
+    os.symlink(module, LAB + "/modules/mdbal")
     with open(LAB + "/modules/bcrypt.py", "w", encoding="ascii"):
         pass  # on Debian 13 the one of the system is not imported twice
     end("mgr")
