@@ -3,7 +3,7 @@
 #![tactic(auto)]
 
 use script_engine::{Input, Output};
-use script_program::start;
+use script_program::{SystemProofs, start};
 use std::process::ExitCode;
 use std::{env, io};
 
@@ -26,6 +26,7 @@ fn main(rt: HostRuntime) -> ExitCode {
         &rt,
         rt.alloc(),
         words.as_slice(),
+        &mut SystemProofs { runtime: &rt },
         &mut input,
         &mut output,
         &mut rt.stderr(),

@@ -4,5 +4,7 @@
 mod hints;
 pub mod laws;
 pub mod program;
+mod proof_files;
 
 pub use program::start;
+pub use proof_files::{ProofFiles, SystemProofs};

@@ -1,20 +1,23 @@
 //! The program over any devices: from the words of its command line to its exit status.
-ghost use Rattle.std.specs.Prelude.{◌≡◌, ◌≤◌, ◌⊎◌, ⊤, map};
-ghost use Rattle.clap.specs.Words.{IsAmong, fault_of};
-ghost use Rattle.command_line.specs.CommandLine.{mdbal};
+ghost use Rattle.std.specs.Prelude.{◌≡◌, ◌≤◌, IsErrOf, None, Ok, map, option_map, is_some};
+ghost use Rattle.command_line.specs.Outcome.{EndsWith};
+ghost use Rattle.command_line.specs.declared.options_error.OptionsError.TheVariants as cause;
 ghost use Rattle.script_engine.specs.Known.{AppendsFront};
-ghost use Rattle.script_program.specs.Exit.{AreProved, IsExit, IsRun, message, run_status};
+ghost use Rattle.script_engine.specs.declared.driver.RunError.TheVariants as failure;
+ghost use Rattle.script_program.specs.Exit.{HasAllIn, HasFrontIn, IsExit, IsFiledRun, IsMemorySaid, IsRun};
+ghost use Rattle.script_program.specs.Exit.{message, run_status};
+ghost use Rattle.script_session.specs.Ending.{IsRunOf};
 ghost use Rattle.std.specs.Option.{option_and_then};
 
 use crate::hints::LineHints;
-use command_line::{Settings, create_file, options};
+use crate::proof_files::ProofFiles;
+use command_line::{OptionsError, Settings, options};
 use dirtree::NameKey;
 use script_engine::{Input, RunError, write_whole};
 use script_session::laws::certificates_are_best;
-use script_session::{RunOptions, run};
+use script_session::{Ended, RunOptions, run};
 use std::alloc::Global;
 use std::convert::AsStr;
-use std::fs::Files;
 use std::io;
 use std::io::{Read, Write};
 use std::marker::Sync;
@@ -31,57 +34,76 @@ use std::thread::Threads;
 /// version end with 0. For a line that isn't accepted a line on
 /// standard error says why, unless the words have `--quiet`.
 pub fn start<
-    T: Threads + Wait + Files + RandomSource + Sync,
+    T: Threads + Wait + RandomSource + Sync,
+    F: ProofFiles,
     S: AsStr,
     R: Read,
     W: Write,
     E: Write,
->(rt: &T, alloc: Global, words: &[S], input: &mut Input<R>, writer: &mut W, errors: &mut E) -> u8
-    requires unread { input.old.reads ≡ 0 }
-    ensures { IsExit R.remaining (map S.text words.now) input.old input.new (W.contents writer.old)
-        (W.contents writer.new) result }
-{
-    match options(alloc, words) {
-        Ok(settings) => carry_out(rt, alloc, settings, input, writer, errors),
-        Err(error) => error.print(writer, errors),
-    }
-}
-
-// Carries out a script with these settings. Where a file for certificates is asked for, it is made first.
-fn carry_out<T: Threads + Wait + Files + RandomSource + Sync, R: Read, W: Write, E: Write>(
+>(
     rt: &T,
     alloc: Global,
-    settings: Settings<'_>,
+    words: &[S],
+    files: &mut F,
     input: &mut Input<R>,
     writer: &mut W,
     errors: &mut E,
 ) -> u8
-    requires some { 1 ≤ settings.limit }
-    requires few { settings.limit ≤ 65536 }
     requires unread { input.old.reads ≡ 0 }
-    ensures { IsRun R.remaining settings.entry.limit settings.entry.strict input.old input.new (W.contents writer.old)
-        (W.contents writer.new) result }
+    ensures { IsExit R.remaining E.contents input.old input.new (W.contents writer.old) (W.contents writer.new)
+        errors.old errors.new (F.holds files.new) (map S.text words.now) result }
 {
-    let mut proofs: Option<T::File> = match open_proofs(rt, settings.proofs) {
-        Ok(proofs) => proofs,
+    match options(alloc, words) {
+        Ok(settings) => carry_out(rt, alloc, &settings, files, input, writer, errors),
+        Err(error) => explain(&error, writer, errors),
+    }
+}
+
+// Prints why the words give no settings: the help and the version to `writer`, all else to `errors`. Gives the status.
+fn explain<W: Write, E: Write>(error: &OptionsError, writer: &mut W, errors: &mut E) -> u8
+    ensures status { EndsWith error.now result }
+    ensures unprinted { result ≡ 2 → writer.new ≡ writer.old }
+    ensures memory { error.now ≡ cause.Memory → IsMemorySaid E.contents errors.old errors.new }
+{
+    if let OptionsError::Memory = error {
+        return fail(RunError::Memory, errors);
+    }
+    error.print(writer, errors)
+}
+
+// Carries out a script with these settings. Where a file for certificates is asked for, it is made first.
+fn carry_out<T: Threads + Wait + RandomSource + Sync, F: ProofFiles, R: Read, W: Write, E: Write>(
+    rt: &T,
+    alloc: Global,
+    settings: &Settings<'_>,
+    files: &mut F,
+    input: &mut Input<R>,
+    writer: &mut W,
+    errors: &mut E,
+) -> u8
+    requires some { 1 ≤ settings.now.limit }
+    requires few { settings.now.limit ≤ 65536 }
+    requires unread { input.old.reads ≡ 0 }
+    ensures { IsFiledRun R.remaining E.contents input.old input.new (W.contents writer.old) (W.contents writer.new)
+        errors.old errors.new settings.now.limit settings.now.strict (F.holds files.new)
+        (option_map (λ file. file.now) settings.now.proofs) result }
+{
+    let Some(name) = settings.proofs else {
+        let mut none: Option<F::File> = None;
+        return prove(rt, alloc, settings, input, writer, &mut none, errors);
+    };
+    let mut proofs = match files.create(name) {
+        Ok(file) => Some(file),
         Err(error) => {
             let _ = writeln!(errors, "mdbal: --proofs: {error}");
             return 3;
         }
     };
-    let Ok(key) = name_key(rt) else {
-        return fail(RunError::Read, errors);
-    };
-    let options = RunOptions {
-        key,
-        limit: settings.limit,
-        strict: settings.strict,
-    };
-    let hints = LineHints {
-        errors,
-        quiet: settings.quiet,
-    };
-    prove(rt, alloc, options, input, writer, &mut proofs, hints)
+    let status = prove(rt, alloc, settings, input, writer, &mut proofs, errors);
+    if let Some(file) = proofs {
+        files.keep(name, file);
+    }
+    status
 }
 
 // A key that nobody else knows, for the hash by which names are found.
@@ -91,38 +113,29 @@ fn name_key<T: RandomSource>(rt: &T) -> io::Result<NameKey> {
     Ok(NameKey(bytes))
 }
 
-// The file for certificates, if one is asked for, without what it held.
-fn open_proofs<T: Files>(rt: &T, file: Option<&str>) -> io::Result<Option<T::File>> {
-    match file {
-        Some(path) => Ok(Some(create_file(rt, path)?)),
-        None => Ok(None),
-    }
-}
-
 // Carries out a script, and writes the certificates of the plans that it adopts to `proofs`, if there is such a file.
-fn prove<T: Threads + Wait + Sync, R: Read, W: Write, P: Write, E: Write>(
+fn prove<T: Threads + Wait + RandomSource + Sync, R: Read, W: Write, P: Write, E: Write>(
     rt: &T,
     alloc: Global,
-    options: RunOptions,
+    settings: &Settings<'_>,
     input: &mut Input<R>,
     writer: &mut W,
     proofs: &mut Option<P>,
-    hints: LineHints<'_, E>,
+    errors: &mut E,
 ) -> u8
-    requires some { 1 ≤ options.limit }
-    requires few { options.limit ≤ 65536 }
+    requires some { 1 ≤ settings.now.limit }
+    requires few { settings.now.limit ≤ 65536 }
     requires unread { input.old.reads ≡ 0 }
-    ensures run { IsRun R.remaining options.limit options.strict input.old input.new
-        (W.contents writer.old) (W.contents writer.new) result }
-    ensures proofs { result ≤ 1 → AreProved
-        (option_and_then P.contents proofs.old) (option_and_then P.contents proofs.new) }
+    ensures { IsRun R.remaining E.contents input.old input.new (W.contents writer.old) (W.contents writer.new)
+        errors.old errors.new settings.now.limit settings.now.strict
+        (HasAllIn (option_and_then P.contents proofs.old) (option_and_then P.contents proofs.new))
+        (HasFrontIn (option_and_then P.contents proofs.old) (option_and_then P.contents proofs.new))
+        (is_some proofs.old) result }
 {
-    let mut hints = hints;
-    let ended = run(rt, alloc, input, writer, proofs, &mut hints, options);
-    let LineHints {
-        errors,
-        quiet: _quiet,
-    } = hints;
+    let Ok(key) = name_key(rt) else {
+        return fail(RunError::Read, errors);
+    };
+    let ended = answer(rt, alloc, settings, key, input, writer, proofs, errors);
     let accepted = match ended.answered {
         Ok(accepted) => accepted,
         Err(failure) => return fail(failure, errors),
@@ -133,6 +146,43 @@ fn prove<T: Threads + Wait + Sync, R: Read, W: Write, P: Write, E: Write>(
     }
     certificates_are_best();
     if accepted { 0 } else { 1 }
+}
+
+// Answers the lines of a script, and says on standard error why one isn't accepted, unless it is to be quiet.
+fn answer<T: Threads + Wait + Sync, R: Read, W: Write, P: Write, E: Write>(
+    rt: &T,
+    alloc: Global,
+    settings: &Settings<'_>,
+    key: NameKey,
+    input: &mut Input<R>,
+    writer: &mut W,
+    proofs: &mut Option<P>,
+    errors: &mut E,
+) -> Ended
+    requires some { 1 ≤ settings.now.limit }
+    requires few { settings.now.limit ≤ 65536 }
+    requires unread { input.old.reads ≡ 0 }
+    ensures run { IsRunOf R.remaining settings.now.limit settings.now.strict input.old input.new
+        (W.contents writer.old) (W.contents writer.new)
+        (option_and_then P.contents proofs.old) (option_and_then P.contents proofs.new) result }
+    ensures memory { IsErrOf result.answered failure.Memory → (input.new ≡ input.old) × (writer.new ≡ writer.old) }
+    ensures unasked { proofs.old ≡ None → result.proved ≡ Ok tt }
+{
+    let options = RunOptions {
+        key,
+        limit: settings.limit,
+        strict: settings.strict,
+    };
+    let mut hints = LineHints {
+        errors,
+        quiet: settings.quiet,
+    };
+    let ended = run(rt, alloc, input, writer, proofs, &mut hints, options);
+    let LineHints {
+        errors: _errors,
+        quiet: _quiet,
+    } = hints;
+    ended
 }
 
 // Says why a run ended before its script did, and gives the status for that.

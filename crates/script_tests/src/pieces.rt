@@ -2,7 +2,7 @@
 use crate::same::{Sure, holds_in, same, same_in};
 use certificate_judge::judge;
 use script_engine::{Input, Output};
-use script_program::start;
+use script_program::{SystemProofs, start};
 use std::alloc::{AllocError, Global};
 use std::cell::Cell;
 use std::fs::Files;
@@ -70,7 +70,8 @@ fn ended<T: Threads + Wait + Files + RandomSource + Sync, R: Read + Drop, W: Wri
 ) -> (u8, R) {
     let mut input = Input::new(reader);
     let mut errors = Vec::new(alloc);
-    let status = start(rt, alloc, words, &mut input, writer, &mut errors);
+    let mut files = SystemProofs { runtime: rt };
+    let status = start(rt, alloc, words, &mut files, &mut input, writer, &mut errors);
     (status, input.into_inner())
 }
 
