@@ -71,7 +71,15 @@ fn ended<T: Threads + Wait + Files + RandomSource + Sync, R: Read + Drop, W: Wri
     let mut input = Input::new(reader);
     let mut errors = Vec::new(alloc);
     let mut files = SystemProofs { runtime: rt };
-    let status = start(rt, alloc, words, &mut files, &mut input, writer, &mut errors);
+    let status = start(
+        rt,
+        alloc,
+        words,
+        &mut files,
+        &mut input,
+        writer,
+        &mut errors,
+    );
     (status, input.into_inner())
 }
 
