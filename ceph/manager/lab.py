@@ -3,6 +3,7 @@ import contextlib
 import json
 import os
 import re
+import select
 import shutil
 import signal
 import subprocess
@@ -237,7 +238,8 @@ def heated(names: List[bytes], fs: str = "lab") -> Iterator[None]:
                             stdout=subprocess.PIPE)
     assert load.stdout
     try:
-        holds("the load has begun", load.stdout.readline())  # a busy cluster takes its time until a client is mounted
+        begun = select.select([load.stdout], [], [], 120)[0]  # a busy cluster takes its time until a client is mounted
+        holds("the load has begun", begun and load.stdout.readline())
         time.sleep(15)
         yield
     finally:

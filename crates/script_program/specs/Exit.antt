@@ -74,13 +74,13 @@ module _ {R E : Type 0} (remaining : R → Option (List ℕ)) (said : E → Opti
     IsUnread = ((new.failed ≡ true) ⊎ (new.reads ≡ 2 ^ 40))
         × (bytes : List ℕ) × Gives remaining old new bytes × WholeAnswered limit strict bytes before after
 
-    -- a write failed, and a beginning of what was due was written
+    -- a beginning of what was due was written, as where a write failed
     abbrev pub IsUnwritten : Type 0
     IsUnwritten = (bytes : List ℕ) × Gives remaining old new bytes × SomeAnswered limit strict bytes before after
 
     -- What a run has done, by the status. 0 and 1: the script was carried out, each line was accepted or one was not,
-    -- and all certificates were written. 2: there was no memory to begin with. 3: a read or a
-    -- write failed; or the script was carried out, a file is named for certificates, and a beginning of them was
+    -- and all certificates were written. 2: there was no memory to begin with. 3: a read failed; or a beginning of what
+    -- was due was written; or the script was carried out, a file is named for certificates, and a beginning of them was
     -- written; or nothing was read, as the file could not be made or there are no random bytes.
     abbrev pub IsRun : (Whole Front : Option BoardData → Type 0) (is_named : Bool) → ℕ → Type 0
     IsRun Whole Front is_named status =
