@@ -1,5 +1,5 @@
 -- The only member of a name, and items one by one.
-use Rattle.std.proofs.Common.{◌≡◌, ◌<◌, ◌≤◌, ◌+◌, ◌∙◌, ℕ, List, [], ◌∷◌, drop, Option, Some, None}
+use Rattle.std.proofs.Common.{ℕ, List, [], ◌∷◌, drop, Option, Some, None}
 use Rattle.std.proofs.Common.{Bor}
 use Rattle.json.specs.Json.{Json}
 use Rattle.json.specs.Value.{members_view}

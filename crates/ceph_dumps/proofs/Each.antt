@@ -1,5 +1,5 @@
 -- What the items of a list, and the values of an object, say one by one.
-use Rattle.std.proofs.Common.{◌≡◌, ◌<◌, ◌≤◌, ◌+◌, ◌∙◌, ℕ, List, [], ◌∷◌, ◌++◌, drop, Option}
+use Rattle.std.proofs.Common.{ℕ, List, ◌++◌, drop, Option}
 use Rattle.std.proofs.Common.{option_map, Bor}
 use Rattle.json.specs.Json.{Json}
 use Rattle.json.specs.Value.{items_view, members_view}

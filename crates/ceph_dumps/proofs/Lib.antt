@@ -1,8 +1,10 @@
+pub mod Attributes
 pub mod Chosen
 pub mod Clean
 pub mod DumpUtf8
 pub mod Each
 pub mod Figures
+pub mod FirstLine
 pub mod Hours
 pub mod Limiting
 pub mod Keeping

@@ -1,9 +1,8 @@
 -- The sum of weighed counters, one by one.
-use Rattle.std.proofs.Common.{◌≡◌, ◌<◌, ◌≤◌, ◌+◌, ◌∙◌, ◌⊎◌, ℕ, List, [], ◌∷◌, length, drop, min, refl, ap, arith, ⊎_elim, leb, true, false, inl, inr}
+use Rattle.std.proofs.Common.{◌≡◌, ◌≤◌, ◌∙◌, ◌⊎◌, ℕ, List, [], ◌∷◌, length, drop, min, refl, ap, arith, ⊎_elim, leb, true, false, inl, inr}
 use Rattle.std.proofs.lemmas.List.{drop_all}
 use Rattle.std.specs.Float.{Float}
 use Rattle.std.proofs.lemmas.Bool.{cases_Bool, leb-false, leb-true}
-use lib.Ieee as Ieee
 use Rattle.ceph_dumps.specs.Loads.{weighed_sum}
 
 pub past_shorter : (m n at : ℕ) → min m n ≤ at → (m ≤ at) ⊎ (n ≤ at)

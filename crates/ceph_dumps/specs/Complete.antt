@@ -1,6 +1,8 @@
 -- The line of the file that says which file system was collected.
-use Rattle.std.specs.Prelude.{◌≡◌, ◌==◌, ◌&&◌, ◌||◌, ◌<◌, ◌++◌, ℕ}
+use Rattle.std.specs.Prelude.{◌≡◌, ◌==◌, ◌&&◌, ◌||◌, ◌<◌, ◌++◌, ⊤, ℕ}
 use Rattle.std.specs.Prelude.{Bool, true, List, [], ◌∷◌, length, slice_index, nat_le}
+use Rattle.ceph_dumps.specs.declared.dump_error.DumpError.{DumpError}
+use Rattle.ceph_dumps.specs.declared.dump_error.DumpError.TheVariants.{Complete, Memory}
 
 -- a letter or digit of ASCII, an underscore, a dot or a hyphen
 abbrev pub is_word_byte : ℕ → Bool
@@ -22,3 +24,10 @@ pub record AreTwoWords (line name fsid : List ℕ) : Type 0 where
   pub whole : line ≡ name ++ 32 ∷ fsid
   pub name_is : IsWord name
   pub fsid_is : IsWord fsid
+
+-- why the file can't be read: for want of memory, or as its bytes are the line of no two words
+abbrev pub IsCompleteError : List ℕ → DumpError → Type 0
+IsCompleteError bytes Memory = ⊤
+IsCompleteError bytes Complete =
+    (name fsid : List ℕ) → IsWord name → IsWord fsid → bytes ≡ line_of name fsid → ⊥
+IsCompleteError bytes _ = ⊥

@@ -2,6 +2,7 @@ pub mod Balancer
 pub mod Cluster
 pub mod Complete
 pub mod DumpText
+pub mod FirstBroken
 pub mod HourRecord
 pub mod Inode
 pub mod Inodes

@@ -1,10 +1,13 @@
 -- The list of this program's pins, as it is read: a line for each, with the rank, a blank and the path.
-use Rattle.std.specs.Prelude.{◌≡◌, ◌≢◌, ◌==◌, ◌&&◌, ◌+◌, ◌-◌, ◌*◌, ℕ, zero, suc, Bool, List, [], ◌∷◌, All}
+use Rattle.std.specs.Prelude.{◌≡◌, ◌≢◌, ◌==◌, ◌<◌, ◌&&◌, ◌+◌, ◌-◌, ◌*◌, ◌^◌, ⊤, ℕ, zero, suc, Bool, List, [], ◌∷◌, All}
 use Rattle.std.specs.Prelude.{Option, Some, None, codes, drop, is_some, length, map, nat_le, slice_index, take}
 use Rattle.std.specs.Prelude.{if◌then◌else◌}
 use Rattle.std.specs.List.{flat_map, slice_split}
 use Rattle.std.specs.Option.{unwrap_or}
-use Rattle.std.specs.Str.Parse.{digits_value}
+use Rattle.std.specs.Str.Parse.{IsNumeral, digits_value, without_leading_plus}
+use Rattle.ceph_dumps.specs.FirstBroken.{IsFirstBroken}
+use Rattle.ceph_dumps.specs.declared.dump_error.DumpError.{DumpError}
+use Rattle.ceph_dumps.specs.declared.dump_error.DumpError.TheVariants.{Memory, Own}
 use Rattle.ceph_dumps.specs.declared.own_list.OwnPin.{OwnPin}
 
 -- a digit up to this one
@@ -44,6 +47,15 @@ digit_count (c ∷ cs) = if is_digit_to 57 c then 1 + digit_count cs else 0
 abbrev pub behind_digits : List ℕ → List ℕ
 behind_digits line = drop (digit_count line) line
 
+-- the number that decimal digits write, where a plus may stand before them
+abbrev pub number_told : List ℕ → ℕ
+number_told text = digits_value 10 (without_leading_plus text)
+
+-- such a number, which 64 bits can hold
+pub record IsNumberText (text : List ℕ) : Type 0 where
+  pub numeral : IsNumeral 10 (without_leading_plus text)
+  pub fits : number_told text < 2 ^ 64
+
 -- a rank and a path
 abbrev pub RankPath : Type 0
 RankPath = ℕ × List ℕ
@@ -60,10 +72,15 @@ line_rank_path line =
 abbrev pub line_pins : List ℕ → List RankPath
 line_pins line = if length line == 0 then [] else line_rank_path line ∷ []
 
--- each line that isn't empty has digits, a blank and a slash
+-- the digits of a number, a blank and a slash
+pub record ArePinParts (line : List ℕ) : Type 0 where
+  pub rank : IsNumberText (take (digit_count line) line)
+  pub blank : slice_index (behind_digits line) 0 ≡ 32
+  pub slash : slice_index (behind_digits line) 1 ≡ 47
+
+-- each line that isn't empty has them
 abbrev pub IsPinLine : List ℕ → Type 0
-IsPinLine line =
-    length line ≢ 0 → (slice_index (behind_digits line) 0 ≡ 32) × (slice_index (behind_digits line) 1 ≡ 47)
+IsPinLine line = length line ≢ 0 → ArePinParts line
 
 abbrev pub list_lines : List ℕ → List (List ℕ)
 list_lines bytes = slice_split (λ byte. byte == 10) bytes
@@ -72,3 +89,9 @@ list_lines bytes = slice_split (λ byte. byte == 10) bytes
 pub record ArePinsOfList (bytes : List ℕ) (pins : List OwnPin) : Type 0 where
   pub lines : All IsPinLine (list_lines bytes)
   pub each : map rank_path pins ≡ flat_map line_pins (list_lines bytes)
+
+-- why a list of pins can't be read: for want of memory, or for the first line that is none of a pin
+abbrev pub IsPinListError : List ℕ → DumpError → Type 0
+IsPinListError bytes Memory = ⊤
+IsPinListError bytes (Own number) = IsFirstBroken IsPinLine (list_lines bytes) number
+IsPinListError bytes _ = ⊥

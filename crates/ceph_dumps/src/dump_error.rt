@@ -34,7 +34,7 @@ pub enum DumpError {
     /// The file system has a rank of this number.
     #[error("rank {0} is none of 0 to 63")]
     BadRank(u32),
-    /// This line of a listing is neither a name nor a value.
+    /// This line of a listing is neither a name nor a gap, and no directory is named for it.
     #[error("line {0}: expected `# file: NAME` or `NAME=\"VALUE\"`")]
     Listing(usize),
     /// This line of a listing has an attribute that the collector doesn't ask for, or a value that is no number.

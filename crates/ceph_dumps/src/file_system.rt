@@ -4,7 +4,7 @@
 //! collector didn't finish.
 ghost use Rattle.std.specs.Prelude.{◌≡◌, ◌≢◌, ◌↔◌, ◌<◌, ◌≤◌, ◌++◌, ℕ, List, codes, length, slice_index, true, false};
 ghost use Rattle.std.specs.Prelude.{IfErr, IfOk, IsTrue, MatchOption, string_bytes};
-ghost use Rattle.ceph_dumps.specs.Complete.{AreTwoWords, IsWord, is_word_byte, line_of};
+ghost use Rattle.ceph_dumps.specs.Complete.{AreTwoWords, IsCompleteError, IsWord, is_word_byte, line_of};
 
 use crate::dump_error::DumpError;
 use crate::listing::after;
@@ -109,6 +109,7 @@ pub(crate) fn unended(text: &[u8]) -> Option<&[u8]>
 pub fn read_complete(alloc: Global, bytes: &[u8]) -> Result<FileSystem, DumpError>
     ensures line { IfOk result (λ found. bytes.now ≡ line_of (string_bytes found.name) (string_bytes found.fsid)) }
     ensures words { IfOk result (λ found. IsWord (string_bytes found.name) × IsWord (string_bytes found.fsid)) }
+    ensures refused { IfErr result (IsCompleteError bytes.now) }
 {
     let Some(line) = unended(bytes) else {
         return Err(DumpError::Complete);

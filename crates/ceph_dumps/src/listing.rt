@@ -4,13 +4,14 @@
 //! `\015` are a backslash, a newline and a return, and all else is raw. The root is
 //! `.`, and other names have no slash in front; from attr 2.6 on they begin with `./`.
 
-ghost use Rattle.std.specs.Prelude.{◌≡◌, ◌≢◌, ◌≤◌, ◌++◌, ℕ, List, None, Some, codes, length, if◌then◌else◌};
-ghost use Rattle.std.specs.Prelude.{IfOk, IfSome, IsOk, IsSome, MatchOption, OnOk};
-ghost use Rattle.std.specs.Str.Parse.{digits_value, without_leading_plus};
-ghost use Rattle.ceph_dumps.specs.Listing.{AreValuesListed, IsListedAs, IsPinOf, IsValueOf, is_zero, listed_path};
-ghost use Rattle.ceph_dumps.specs.Listing.{NamedLine, line_below, name_after};
+ghost use Rattle.std.specs.Prelude.{◌≡◌, ◌≢◌, ◌≤◌, ◌++◌, ℕ, List, None, Option, Some, codes, length, true};
+ghost use Rattle.std.specs.Prelude.{IfErr, IfOk, IfSome, MatchOption, OnOk, option_map, if◌then◌else◌};
+ghost use Rattle.ceph_dumps.specs.Listing.{AreValuesListed, IsLineError, IsListedAs, IsListingError, IsNumberTextOf};
+ghost use Rattle.ceph_dumps.specs.Listing.{IsPinOf, IsShareText, IsValueOf, NamedLine, is_said, is_zero};
+ghost use Rattle.ceph_dumps.specs.Listing.{line_below, listed_path, name_after};
 ghost use Rattle.ceph_dumps.specs.OneForOne.{AreOneForOne};
-ghost use Rattle.ceph_dumps.specs.OwnList.{named_bytes, octal_byte};
+ghost use Rattle.ceph_dumps.specs.OwnList.{IsNumberText, named_bytes, octal_byte};
+ghost use Rattle.ceph_dumps.specs.declared.listing.ListedValue.{ListedValue};
 
 use crate::dump_error::DumpError;
 use crate::paths::is_clean_path;
@@ -87,20 +88,20 @@ fn path_of(alloc: Global, name: &[u8]) -> Result<Vec<u8>, AllocError>
     Ok(path)
 }
 
-/// The number of decimal digits, at most 19 of them.
+/// The number of decimal digits, if it fits.
 pub(crate) fn number_of(digits: &[u8]) -> Option<u64>
-    ensures { IfSome result (λ number. number ≡ digits_value 10 (without_leading_plus digits.now)) }
+    ensures { MatchOption result (¬ IsNumberText digits.now) (IsNumberTextOf digits.now) }
 {
-    if digits.is_empty() || digits.len() > 19 {
+    let Ok(text) = str::from_utf8(digits) else {
         return None;
-    }
-    str::from_utf8(digits).ok()?.parse().ok()
+    };
+    text.parse().ok()
 }
 
 /// The policy that a number sets: none if the number is zero, as `0` and `0.000000` are.
 fn policy_of(number: &[u8], policy: EphemeralPin) -> Option<ListedValue>
-    ensures { IfSome result (λ value. value
-        ≡ ListedValue.Policy (if is_zero number.now then None else Some policy)) }
+    ensures { MatchOption result (¬ IsShareText number.now) (λ value. IsShareText number.now
+        × (value ≡ ListedValue.Policy (if is_zero number.now then None else Some policy))) }
 {
     if !matches!(number, [b'0'..=b'9', ..]) {
         return None;
@@ -111,12 +112,15 @@ fn policy_of(number: &[u8], policy: EphemeralPin) -> Option<ListedValue>
 
 /// The pin that a number sets: none if it is negative.
 fn pin_of(number: &[u8]) -> Option<ListedValue>
-    ensures { IfSome result (IsPinOf number.now) }
+    ensures { MatchOption result ((value : ListedValue) → IsPinOf number.now value → ⊥) (IsPinOf number.now) }
 {
-    if number.starts_with(b"-") {
+    if after(number, b"-").is_some() {
         return Some(ListedValue::Pin(None));
     }
-    Some(ListedValue::Pin(Some(number_of(number)?)))
+    match number_of(number) {
+        Some(rank) => Some(ListedValue::Pin(Some(rank))),
+        None => None,
+    }
 }
 
 /// What comes after this front of a text, if it begins with that.
@@ -137,9 +141,11 @@ fn unquoted(text: &[u8]) -> Option<&[u8]>
 
 /// The value that an attribute's line says.
 fn value_of(line: &[u8]) -> Option<ListedValue>
-    ensures { IfSome result (IsValueOf line.now) }
+    ensures { MatchOption result ((value : ListedValue) → IsValueOf line.now value → ⊥) (IsValueOf line.now) }
 {
-    let value = unquoted(line)?;
+    let Some(value) = unquoted(line) else {
+        return None;
+    };
     if let Some(number) = after(value, b"ceph.dir.entries=\"") {
         return Some(ListedValue::Entries(number_of(number)?));
     }
@@ -149,7 +155,10 @@ fn value_of(line: &[u8]) -> Option<ListedValue>
     if let Some(number) = after(value, b"ceph.dir.pin.random=\"") {
         return policy_of(number, EphemeralPin::Random);
     }
-    pin_of(after(value, b"ceph.dir.pin=\"")?)
+    match after(value, b"ceph.dir.pin=\"") {
+        Some(number) => pin_of(number),
+        None => None,
+    }
 }
 
 /// What a line of this number says of the directory that was named before.
@@ -159,8 +168,8 @@ fn listed(
     line: &[u8],
     number: usize,
 ) -> Result<ListedDir, DumpError>
-    ensures is { IfOk result (λ dir. IfSome name.entry (λ name. IsListedAs (name.now, line.now) dir)) }
-    ensures named { IsOk result → IsSome name.entry }
+    ensures is { IfOk result (IsListedAs (option_map (λ here. here.now) name.entry, line.now)) }
+    ensures refused { IfErr result (IsLineError (option_map (λ here. here.now) name.entry, line.now) number) }
 {
     let Some(name) = name else {
         return Err(DumpError::Listing(number));
@@ -184,11 +193,13 @@ fn add_line<'a>(
     line: &'a [u8],
     number: usize,
 ) -> Result<Option<&'a [u8]>, DumpError>
-    ensures lines { (above : List ℕ) (lines : List NamedLine) → IfSome name.entry (λ here. here.now ≡ above)
-        → AreOneForOne IsListedAs lines found.old.items
-        → OnOk result (AreOneForOne IsListedAs (lines ++ line_below above line.entry.now) found.new.items) }
-    ensures name { (above : List ℕ) → IfSome name.entry (λ here. here.now ≡ above)
-        → IfOk result (λ next. IfSome next (λ here. here.now ≡ name_after above line.entry.now)) }
+    ensures lines { (lines : List NamedLine) → AreOneForOne IsListedAs lines found.old.items
+        → OnOk result (AreOneForOne IsListedAs
+        (lines ++ line_below (option_map (λ here. here.now) name.entry) line.entry.now) found.new.items) }
+    ensures name { IfOk result (λ next. option_map (λ here. here.now) next
+        ≡ name_after (option_map (λ here. here.now) name.entry) line.entry.now) }
+    ensures said { IfErr result (λ _. is_said line.entry.now ≡ true) }
+    ensures refused { IfErr result (IsLineError (option_map (λ here. here.now) name.entry, line.entry.now) number) }
 {
     if let Some(here) = after(line, b"# file: ") {
         return Ok(Some(here));
@@ -202,7 +213,8 @@ fn add_line<'a>(
 
 /// What a listing says, in its order.
 pub fn read_listing(alloc: Global, bytes: &[u8]) -> Result<Vec<ListedDir>, DumpError>
-    ensures { IfOk result (λ found. AreValuesListed bytes.now found.items) }
+    ensures values { IfOk result (λ found. AreValuesListed bytes.now found.items) }
+    ensures refused { IfErr result (IsListingError bytes.now) }
 {
     let mut found = Vec::new(alloc);
     let mut name = None;

@@ -1,12 +1,11 @@
 //! The list of the pins that a plan set before: a line `RANK NAME` each, with names as `getfattr` writes them.
-ghost use Rattle.std.specs.Prelude.{◌≡◌, ◌≤◌, ◌++◌, ◌∷◌, IfOk, IfSome, OnOk, drop, length, map, take};
+ghost use Rattle.std.specs.Prelude.{◌≡◌, ◌≤◌, ◌⊎◌, ◌++◌, ◌∷◌, IfErr, IfOk, MatchOption, OnOk, length, map};
 ghost use Rattle.std.specs.List.{flat_map};
-ghost use Rattle.std.specs.Str.Parse.{digits_value};
-ghost use Rattle.ceph_dumps.specs.OwnList.{ArePinsOfList, IsPinLine, behind_digits, digit_count, line_pins, list_lines};
-ghost use Rattle.ceph_dumps.specs.OwnList.{name_byte, named_bytes, rank_path};
+ghost use Rattle.ceph_dumps.specs.OwnList.{ArePinParts, ArePinsOfList, IsPinLine, IsPinListError, digit_count};
+ghost use Rattle.ceph_dumps.specs.OwnList.{line_pins, line_rank_path, list_lines, name_byte, named_bytes, rank_path};
 
 use crate::dump_error::DumpError;
-use crate::listing::{number_of, push_name};
+use crate::listing::{after, number_of, push_name};
 use std::alloc::{AllocError, Global};
 
 /// A pin that a plan set before.
@@ -55,15 +54,16 @@ pub(crate) fn digit_count(line: &[u8]) -> usize
 
 /// The rank and the name, without its slash, that a line has on both sides of its first blank, if it has.
 fn words_of(line: &[u8]) -> Option<(u64, &[u8])>
-    ensures rank { IfSome result (λ words. words.0 ≡ digits_value 10 (take (digit_count line.now) line.now)) }
-    ensures name { IfSome result (λ words. words.1.now ≡ drop 2 (behind_digits line.now)) }
-    ensures line { IfSome result (λ _. IsPinLine line.now) }
+    ensures { MatchOption result (¬ ArePinParts line.now) (λ words. ArePinParts line.now
+        × ((words.0, 47 ∷ named_bytes 0 words.1.now) ≡ line_rank_path line.now)) }
 {
     let (digits, rest) = line.split_at(digit_count(line));
-    let rank = number_of(digits)?;
-    match rest {
-        [b' ', b'/', name @ ..] => Some((rank, name)),
-        _ => None,
+    let Some(rank) = number_of(digits) else {
+        return None;
+    };
+    match after(rest, b" /") {
+        Some(name) => Some((rank, name)),
+        None => None,
     }
 }
 
@@ -86,6 +86,8 @@ fn push_pin(
 ) -> Result<(), DumpError>
     ensures pins { OnOk result (map rank_path found.new.items ≡ map rank_path found.old.items ++ line_pins line.now) }
     ensures line { OnOk result (IsPinLine line.now) }
+    ensures refused { IfErr result (λ error. (error ≡ DumpError.Memory)
+        ⊎ ((error ≡ DumpError.Own number) × ¬ IsPinLine line.now)) }
 {
     if line.is_empty() {
         return Ok(());
@@ -107,7 +109,8 @@ pub(crate) fn lines_of(alloc: Global, bytes: &[u8]) -> Result<Vec<&[u8]>, AllocE
 
 /// The pins of a list, in its order.
 pub fn read_own_list(alloc: Global, bytes: &[u8]) -> Result<Vec<OwnPin>, DumpError>
-    ensures { IfOk result (λ found. ArePinsOfList bytes.now found.items) }
+    ensures pins { IfOk result (λ found. ArePinsOfList bytes.now found.items) }
+    ensures refused { IfErr result (IsPinListError bytes.now) }
 {
     let lines = lines_of(alloc, bytes)?;
     let mut found = Vec::new(alloc);
