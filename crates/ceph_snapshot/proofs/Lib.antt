@@ -1,7 +1,9 @@
 pub mod Adding
 pub mod Beaten
+pub mod ByPath
 pub mod Doubtful
 pub mod Earlier
+pub mod Heard
 pub mod Holders
 pub mod Listed
 pub mod Lookups

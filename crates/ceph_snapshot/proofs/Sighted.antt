@@ -1,5 +1,5 @@
 -- What is counted at a directory with one more sighting, and with all.
-use Rattle.std.proofs.Common.{◌≡◌, ◌≢◌, ◌∙◌, ◌<◌, ◌≤◌, ◌+◌, ◌++◌, ◌∷◌, ◌==◌, ◌&&◌, ◌||◌, [], ℕ, suc, Bool, true, false, All, List, Option, Some, None, cond, length, map, set, slice_get, refl, ap, sym, subst, arith, sum_by, ⊎_elim}
+use Rattle.std.proofs.Common.{◌≡◌, ◌≢◌, ◌∙◌, ◌<◌, ◌≤◌, ◌+◌, ◌∷◌, ◌==◌, ◌&&◌, ◌||◌, [], ℕ, suc, Bool, true, false, All, List, Option, Some, None, cond, length, map, set, slice_get, refl, ap, sym, subst, arith, sum_by, ⊎_elim}
 use Rattle.std.specs.List.{fold}
 use Rattle.std.specs.Option.{option_map, option_or, unwrap_or}
 use Rattle.std.proofs.lemmas.Bool.{cases_eq, eq-eqb, false_from_ne_true, ne_eqb}
@@ -43,7 +43,7 @@ account_past nodes s past i =
     (λ (other : i ≢ s.directory). sym (elsewhere s (slice_get nodes i)) ∙ ap (λ (b : Bool). option_map (λ (n : Node). account_with b s n.directory) (slice_get nodes i)) (sym (ne_eqb s.directory i (λ is. other (sym is)))))
     (cases_eq i s.directory)
 
-seen_by_place : (spread : Bool) (now rank : ℕ) → (spread || (now == rank)) ≡ (spread || (cond spread 0 now == rank))
+pub seen_by_place : (spread : Bool) (now rank : ℕ) → (spread || (now == rank)) ≡ (spread || (cond spread 0 now == rank))
 seen_by_place true now rank = refl
 seen_by_place false now rank = refl
 
@@ -60,7 +60,7 @@ pub at_map : {A B C : Type 0} (f : A → C) (g : B → C) (xs : List A) (ys : Li
 at_map {C = C} f g xs ys same i = sym (slice_get-map f xs i) ∙ (ap (λ (cs : List C). slice_get cs i) same ∙ slice_get-map g ys i)
 
 -- a sighting is of directory i where it has that path
-same_path : (nodes : List Node) (i j : ℕ) (t : Account) → HaveOwnPaths nodes → account_at nodes i ≡ Some t → j < length nodes → (j == i) ≡ bytes_eq (node_path_at nodes j) t.0
+pub same_path : (nodes : List Node) (i j : ℕ) (t : Account) → HaveOwnPaths nodes → account_at nodes i ≡ Some t → j < length nodes → (j == i) ≡ bytes_eq (node_path_at nodes j) t.0
 same_path nodes i j t apart there l =
     ⊎_elim
     (λ (same : j ≡ i). eq-eqb j i same ∙ sym ((bytes_eq-Decides (node_path_at nodes j) t.0).1 (ap (node_path_at nodes) same ∙ path_account nodes i t there)))

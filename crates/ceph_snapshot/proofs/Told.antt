@@ -15,7 +15,7 @@ use Rattle.ceph_snapshot.specs.declared.tree.Sighting.{Sighting}
 use Rattle.ceph_snapshot.specs.declared.names.Names.{Names}
 use Rattle.ceph_snapshot.specs.Names.{path_number}
 use Rattle.ceph_snapshot.specs.Sightings.{Account, IsNumberOf, IsNumbered, TreeData, account_at, account_of, with_path}
-use Rattle.ceph_snapshot.specs.Facts.{AreAsTold, Fact, IsAsTold, IsToldSpread, IsWith, StillTold, any_of, entries_told, fact_path, number_listed, pin_told, policy_told, is_marked_spread, is_other, is_rank, is_root_at, last_of, rank_told}
+use Rattle.ceph_snapshot.specs.Facts.{AreAsTold, Fact, IsAsTold, IsToldSpread, IsWith, KeepNumbers, StillTold, any_of, entries_told, fact_path, number_listed, pin_told, policy_told, is_marked_spread, is_other, is_rank, is_root_at, last_of, rank_told}
 use Rattle.ceph_snapshot.proofs.Beaten.{or_cases, or_one, or_other}
 use Rattle.ceph_snapshot.proofs.Numbers.{numbered_set, own_paths, path_account, path_same}
 use Rattle.ceph_snapshot.proofs.Parents.{get_more}
@@ -241,6 +241,13 @@ still_more names nodes n path ss fresh is first was = record {
       false_from_ne_true (bytes_eq (fact_path f) n.directory.path.items)
       (λ same. none-some i.0 (sym fresh ∙ (ap (path_number names) (sym is ∙ (sym ((bytes_eq-Decides (fact_path f) n.directory.path.items).0 same) ∙ sym at.2)) ∙ was.numbered i.0 at.0 at.1)))
 
+-- more is known of a directory
+set_numbers : (nodes : List Node) (at : ℕ) (old new : Node) → at < length nodes → slice_get nodes at ≡ Some old → account_of new.directory ≡ account_of old.directory → KeepNumbers nodes (set nodes at new)
+set_numbers nodes at old new inside read same p i h = record {
+  inside = omega (arith, h.inside, length-set nodes at new);
+  there = path_same nodes (set nodes at new) i (set-same (λ (n : Node). account_of n.directory) nodes at old new inside read same i) ∙ h.there;
+}
+
 -- one more fact, of the directory with this number
 told_more : (names : Names) (nodes : List Node) (at : ℕ) (old new : Node) (ss : List Sighting) (f : Fact) → slice_get nodes at ≡ Some old → account_of new.directory ≡ account_of old.directory → IsNumberOf nodes (fact_path f) at
     → IsWith f old new → IsNumbered names nodes ss → (facts : List Fact) → AreAsTold nodes facts → AreAsTold (set nodes at new) (facts ++ f ∷ [])
@@ -270,16 +277,14 @@ told_more names nodes at old new ss f read same number more was facts before = r
   path : old.directory.path.items ≡ fact_path f
   path = sym (ap (λ (o : Option Node). option_map_or (λ (one : Node). one.directory.path.items) o []) read) ∙ number.there
 
-  number_set : (p : List ℕ) (i : ℕ) → IsNumberOf nodes p i → IsNumberOf (set nodes at new) p i
-  number_set p i h = record {
-    inside = omega (arith, h.inside, length-set nodes at new);
-    there = path_same nodes (set nodes at new) i (set-same (λ (n : Node). account_of n.directory) nodes at old new number.inside read same i) ∙ h.there;
-  }
+  number_set : KeepNumbers nodes (set nodes at new)
+  number_set = set_numbers nodes at old new number.inside read same
 
 pub record IsAdded (names : Names) (nodes : List Node) (ss : List Sighting) (f : Fact) (before : TreeData) : Type 0 where
   pub numbered : IsNumbered names nodes ss
   pub seen : map (with_path nodes) ss ≡ before.seen
   pub told : (facts : List Fact) → AreAsTold before.nodes facts → AreAsTold nodes (facts ++ f ∷ [])
+  pub numbers : KeepNumbers before.nodes nodes
 
 pub added : (names : Names) (nodes : List Node) (at : ℕ) (old new : Node) (ss : List Sighting) (f : Fact) (v : TreeData) → record { nodes = nodes; seen = map (with_path nodes) ss } ≡ v → IsNumberOf v.nodes (fact_path f) at
     → old ≡ get_or nodes at old → account_of new.directory ≡ account_of old.directory → new.directory.parent ≡ old.directory.parent → IsWith f old new → IsNumbered names nodes ss
@@ -292,6 +297,7 @@ added names nodes at old new ss f v view number here same parent more was =
       numbered = kept.0;
       seen = kept.1 ∙ ap (λ (w : TreeData). w.seen) view;
       told = λ facts before. told_more names nodes at old new ss f read same there more was facts (subst (λ (w : TreeData). AreAsTold w.nodes facts) (sym view) before);
+      numbers = subst (λ (w : TreeData). KeepNumbers w.nodes (set nodes at new)) view (set_numbers nodes at old new there.inside read same);
     }
 
 -- one more of what a list says of the directories of users

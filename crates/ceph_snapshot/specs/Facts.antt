@@ -124,10 +124,14 @@ pub record AreAsTold (nodes : List Node) (facts : List Fact) : Type 0 where
   pub told : All (IsAsTold facts) nodes
   pub there : All (λ f. (i : ℕ) × IsNumberOf nodes (fact_path f) i) facts
 
--- what was told of the directories still is, and they keep their numbers
+-- the directories keep their numbers
+abbrev pub KeepNumbers : List Node → List Node → Type 0
+KeepNumbers old new = (path : List ℕ) (i : ℕ) → IsNumberOf old path i → IsNumberOf new path i
+
+-- and what was told of them still is
 pub record StillTold (old new : List Node) : Type 0 where
   pub told : (facts : List Fact) → AreAsTold old facts → AreAsTold new facts
-  pub numbers : (path : List ℕ) (i : ℕ) → IsNumberOf old path i → IsNumberOf new path i
+  pub numbers : KeepNumbers old new
 
 -- whether a directory with this root is spread by one more fact
 abbrev pub is_other : Option ℕ → Option ℕ → Bool

@@ -2,6 +2,7 @@ pub mod Authority
 pub mod Doubts
 pub mod Facts
 pub mod Gathered
+pub mod Heard
 pub mod Holding
 pub mod Hours
 pub mod Mounts

@@ -10,7 +10,7 @@ use Rattle.ceph_snapshot.specs.declared.directory.Directory.{Directory}
 use Rattle.ceph_snapshot.specs.declared.tree.Node.{Node}
 use Rattle.ceph_snapshot.specs.declared.tree.Sighting.{Sighting}
 use Rattle.ceph_snapshot.specs.declared.names.Names.{Names}
-use Rattle.ceph_snapshot.specs.Authority.{above_at, is_user_path, node_path_at}
+use Rattle.ceph_snapshot.specs.Authority.{above_at, is_torn_at, is_user_path, node_path_at}
 use Rattle.ceph_snapshot.specs.Gathered.{seen_heat}
 use Rattle.ceph_snapshot.specs.Holding.{most_heat}
 use Rattle.ceph_snapshot.specs.Names.{IsPathBelow, path_number}
@@ -148,6 +148,10 @@ account_by i sightings d = (
 -- with heat and writes as the mean of `samples` samples
 abbrev pub mean_account : ℕ → Account → Account
 mean_account samples t = (t.0, (min (t.1.0 / samples) HEAT_LIMIT, (min (t.1.1.0 / samples) HEAT_LIMIT, t.1.1.1)))
+
+-- what of a sighting counts as spread at a rank
+abbrev pub torn_heat : List Node → ℕ → ℕ → Sighting → ℕ
+torn_heat nodes samples rank s = if (s.rank == rank) && is_torn_at nodes s.directory then s.heat / samples else 0
 
 -- what was seen at a directory's path by a rank that counts
 abbrev pub counts : Directory → PathHeat → Bool

@@ -1,13 +1,15 @@
 //! Gathers what the dumps of all ranks say. A directory has its heat from the rank that has authority: the nearest
 //! subtree root at or above it decides. Where that root is in fragments at several ranks, there is no such rank: the
 //! directory, and what is below it with no root of its own, is spread.
-ghost use Rattle.std.specs.Prelude.{◌≡◌, ◌++◌, ◌∷◌, [], ℕ, List, Some, false, true, IfOk, IsErrOf, OnOk};
+ghost use Rattle.std.specs.Prelude.{◌≡◌, ◌⊎◌, ◌++◌, ◌∷◌, [], ℕ, List, Some, false, true, IfOk, IsErrOf, OnOk};
 ghost use Rattle.std.specs.List.{IsAmong};
 ghost use Rattle.ceph_snapshot.specs.Authority.{AreClaimed, IsClaim, IsClaimedTwice, StillClaimed};
-ghost use Rattle.ceph_snapshot.specs.Authority.{PathText, fragment_of};
-ghost use Rattle.ceph_snapshot.specs.Facts.{AreAsTold, Fact, StillTold, roots_in, values_in};
+ghost use Rattle.ceph_snapshot.specs.Authority.{PathText, fragment_of, is_user_path};
+ghost use Rattle.ceph_snapshot.specs.Facts.{Fact, StillTold, roots_in, values_in};
+ghost use Rattle.ceph_snapshot.specs.Heard.{AreHeardAt, AreNumbersOf, HasTold, HeardRank, StillHasTold};
+ghost use Rattle.ceph_snapshot.specs.Heard.{LiesInTop, heard_in_root, top_of_path, tops_in_root};
 ghost use Rattle.ceph_snapshot.specs.Names.{path_number};
-ghost use Rattle.ceph_snapshot.specs.Sightings.{seen_in};
+ghost use Rattle.ceph_snapshot.specs.Sightings.{IsNumberOf, seen_in};
 
 use crate::names::Names;
 use crate::snapshot_error::{SnapshotError, told_path};
@@ -44,7 +46,7 @@ impl Gathering {
     /// Only the root, at rank 0.
     pub fn new(alloc: Global) -> Result<Gathering, SnapshotError>
         ensures seen { IfOk result (λ gathering. gathering.tree.seen ≡ []) }
-        ensures told { IfOk result (λ gathering. AreAsTold gathering.tree.nodes []) }
+        ensures told { IfOk result (λ gathering. HasTold gathering []) }
         ensures listed { IfOk result (λ gathering. gathering.is_listed ≡ false) }
         ensures numbered { IfOk result (λ gathering. gathering.is_numbered ≡ false) }
     {
@@ -62,7 +64,7 @@ impl Gathering {
     /// Adds a sample of the heat that a rank has seen, and the inode numbers of the directories.
     pub fn add_loads(&mut self, rank: Rank, loads: &[FragmentHeat]) -> Result<(), SnapshotError>
         ensures seen { OnOk result (self.new.tree.seen ≡ self.old.tree.seen ++ seen_in rank loads.now) }
-        ensures told { OnOk result (StillTold self.old.tree.nodes self.new.tree.nodes) }
+        ensures told { OnOk result (StillHasTold self.old self.new) }
         ensures listed { self.new.is_listed ≡ self.old.is_listed }
         ensures numbered { self.new.is_numbered ≡ self.old.is_numbered }
     {
@@ -72,18 +74,22 @@ impl Gathering {
         Ok(())
     }
 
-    /// Notes that a rank has a fragment of a directory, which no other rank has.
+    /// Notes that a rank has a fragment of a directory, which no other rank has, if its root says so.
     fn claim(&mut self, rank: Rank, root: &SubtreeRoot) -> Result<(), SnapshotError>
-        requires { root.now.is_here ≡ true }
         ensures tree { self.new.tree ≡ self.old.tree }
+        ensures hearsay { self.new.hearsay ≡ self.old.hearsay }
+        ensures tops { self.new.tops ≡ self.old.tops }
         ensures listed { self.new.is_listed ≡ self.old.is_listed }
         ensures numbered { self.new.is_numbered ≡ self.old.is_numbered }
         ensures twice { (path : PathText) (one two : ℕ) → IsErrOf result (SnapshotError.TwoClaims path one two)
             → IsClaimedTwice self.new.fragments root.now rank path one two }
-        ensures claimed { OnOk result ((fragment : List ℕ) → fragment_of root.now ≡ Some fragment
-            → path_number self.new.fragments fragment ≡ Some rank) }
+        ensures claimed { OnOk result ((fragment : List ℕ) → root.now.is_here ≡ true
+            → fragment_of root.now ≡ Some fragment → path_number self.new.fragments fragment ≡ Some rank) }
         ensures kept { OnOk result (StillClaimed self.old.fragments self.new.fragments) }
     {
+        if !root.is_here {
+            return Ok(());
+        }
         let Some(fragment) = root.fragment.as_deref() else {
             return Ok(());
         };
@@ -102,23 +108,54 @@ impl Gathering {
         }
     }
 
-    /// Notes which directory just below the root Ceph's own pins are at or below.
-    fn hold_top(&mut self, path: &[u8]) -> Result<(), SnapshotError>
+    /// Notes whom a rank takes for the authority of a directory whose root it doesn't have.
+    fn hear(&mut self, directory: u32, rank: Rank, root: &SubtreeRoot) -> Result<(), SnapshotError>
+        requires { IsNumberOf self.old.tree.nodes root.now.path.items directory }
+        ensures tree { self.new.tree ≡ self.old.tree }
         ensures claims { self.new.fragments ≡ self.old.fragments }
-        ensures seen { self.new.tree.seen ≡ self.old.tree.seen }
-        ensures told { OnOk result (StillTold self.old.tree.nodes self.new.tree.nodes) }
+        ensures heard { (heard : List HeardRank) → AreHeardAt self.old.tree.nodes self.old.hearsay.items heard
+            → OnOk result (AreHeardAt self.new.tree.nodes self.new.hearsay.items
+            (heard ++ heard_in_root rank root.now)) }
+        ensures tops { self.new.tops ≡ self.old.tops }
         ensures listed { self.new.is_listed ≡ self.old.is_listed }
         ensures numbered { self.new.is_numbered ≡ self.old.is_numbered }
         ensures twice { (path : PathText) (one two : ℕ) → IsErrOf result (SnapshotError.TwoClaims path one two) → ⊥ }
     {
-        let slash = path.iter().skip(1).position(|byte| *byte == b'/');
-        let end = slash.map_or(path.len(), |at| at + 1);
-        if let Some(number) = self
-            .tree
-            .number(self.alloc, path.get(..end).unwrap_or(path))?
-        {
-            self.tops.push(number)?;
+        if root.is_here {
+            return Ok(());
         }
+        let Ok(authority) = u64::try_from(root.authority) else {
+            return Ok(());
+        };
+        self.hearsay.push(Hearsay {
+            directory,
+            by: rank,
+            authority,
+        })?;
+        Ok(())
+    }
+
+    /// Notes which directory just below the root Ceph's own pins are at or below, if they are there.
+    fn hold_top(&mut self, root: &SubtreeRoot) -> Result<(), SnapshotError>
+        requires { is_user_path root.now.path.items ≡ true }
+        ensures claims { self.new.fragments ≡ self.old.fragments }
+        ensures hearsay { self.new.hearsay ≡ self.old.hearsay }
+        ensures seen { self.new.tree.seen ≡ self.old.tree.seen }
+        ensures told { OnOk result (StillTold self.old.tree.nodes self.new.tree.nodes) }
+        ensures tops { (tops : List (List ℕ)) → AreNumbersOf self.old.tree.nodes self.old.tops.items tops
+            → OnOk result (AreNumbersOf self.new.tree.nodes self.new.tops.items (tops ++ tops_in_root root.now)) }
+        ensures listed { self.new.is_listed ≡ self.old.is_listed }
+        ensures numbered { self.new.is_numbered ≡ self.old.is_numbered }
+        ensures twice { (path : PathText) (one two : ℕ) → IsErrOf result (SnapshotError.TwoClaims path one two) → ⊥ }
+    {
+        if !root.is_spread {
+            return Ok(());
+        }
+        let top = top_of(root.path.as_slice());
+        let Some(number) = self.tree.number(self.alloc, top)? else {
+            return Ok(());
+        };
+        self.tops.push(number)?;
         Ok(())
     }
 
@@ -130,26 +167,17 @@ impl Gathering {
             → path_number self.new.fragments fragment ≡ Some rank) }
         ensures kept { OnOk result (StillClaimed self.old.fragments self.new.fragments) }
         ensures seen { self.new.tree.seen ≡ self.old.tree.seen }
-        ensures told { (facts : List Fact) → AreAsTold self.old.tree.nodes facts
-            → OnOk result (AreAsTold self.new.tree.nodes (facts ++ roots_in rank (root.now ∷ []))) }
+        ensures told { (facts : List Fact) → HasTold self.old facts
+            → OnOk result (HasTold self.new (facts ++ roots_in rank (root.now ∷ []))) }
         ensures listed { self.new.is_listed ≡ self.old.is_listed }
         ensures numbered { self.new.is_numbered ≡ self.old.is_numbered }
     {
         let Some(directory) = self.tree.number(self.alloc, root.path.as_slice())? else {
             return Ok(());
         };
-        if root.is_here {
-            self.claim(rank, root)?;
-        } else if let Ok(authority) = u64::try_from(root.authority) {
-            self.hearsay.push(Hearsay {
-                directory,
-                by: rank,
-                authority,
-            })?;
-        }
-        if root.is_spread {
-            self.hold_top(root.path.as_slice())?;
-        }
+        self.claim(rank, root)?;
+        self.hear(directory, rank, root)?;
+        self.hold_top(root)?;
         self.tree.add_root(directory, rank, root);
         Ok(())
     }
@@ -161,8 +189,8 @@ impl Gathering {
         ensures claimed { OnOk result (AreClaimed self.new.fragments roots.now rank) }
         ensures kept { OnOk result (StillClaimed self.old.fragments self.new.fragments) }
         ensures seen { self.new.tree.seen ≡ self.old.tree.seen }
-        ensures told { (facts : List Fact) → AreAsTold self.old.tree.nodes facts
-            → OnOk result (AreAsTold self.new.tree.nodes (facts ++ roots_in rank roots.now)) }
+        ensures told { (facts : List Fact) → HasTold self.old facts
+            → OnOk result (HasTold self.new (facts ++ roots_in rank roots.now)) }
         ensures listed { self.new.is_listed ≡ self.old.is_listed }
         ensures numbered { self.new.is_numbered ≡ self.old.is_numbered }
     {
@@ -172,19 +200,33 @@ impl Gathering {
         Ok(())
     }
 
+    /// Adds a value that was listed of a directory of users.
+    fn add_value(&mut self, listed: &ListedDir) -> Result<(), SnapshotError>
+        ensures claims { self.new.fragments ≡ self.old.fragments }
+        ensures seen { self.new.tree.seen ≡ self.old.tree.seen }
+        ensures told { (facts : List Fact) → HasTold self.old facts
+            → OnOk result (HasTold self.new (facts ++ values_in (listed.now ∷ []))) }
+        ensures listed { self.new.is_listed ≡ self.old.is_listed }
+        ensures numbered { self.new.is_numbered ≡ self.old.is_numbered }
+    {
+        let Some(number) = self.tree.number(self.alloc, listed.path.as_slice())? else {
+            return Ok(());
+        };
+        self.tree.add_value(number, listed);
+        Ok(())
+    }
+
     /// Adds what a listing says, value by value.
     fn add_values(&mut self, listing: &[ListedDir]) -> Result<(), SnapshotError>
         ensures claims { self.new.fragments ≡ self.old.fragments }
         ensures seen { self.new.tree.seen ≡ self.old.tree.seen }
-        ensures told { (facts : List Fact) → AreAsTold self.old.tree.nodes facts
-            → OnOk result (AreAsTold self.new.tree.nodes (facts ++ values_in listing.now)) }
+        ensures told { (facts : List Fact) → HasTold self.old facts
+            → OnOk result (HasTold self.new (facts ++ values_in listing.now)) }
         ensures listed { self.new.is_listed ≡ self.old.is_listed }
         ensures numbered { self.new.is_numbered ≡ self.old.is_numbered }
     {
         for listed in listing {
-            if let Some(number) = self.tree.number(self.alloc, listed.path.as_slice())? {
-                self.tree.add_value(number, listed);
-            }
+            self.add_value(listed)?;
         }
         Ok(())
     }
@@ -193,8 +235,8 @@ impl Gathering {
     pub fn add_listing(&mut self, listing: &[ListedDir]) -> Result<(), SnapshotError>
         ensures claims { self.new.fragments ≡ self.old.fragments }
         ensures seen { self.new.tree.seen ≡ self.old.tree.seen }
-        ensures told { (facts : List Fact) → AreAsTold self.old.tree.nodes facts
-            → OnOk result (AreAsTold self.new.tree.nodes (facts ++ values_in listing.now)) }
+        ensures told { (facts : List Fact) → HasTold self.old facts
+            → OnOk result (HasTold self.new (facts ++ values_in listing.now)) }
         ensures listed { OnOk result (self.new.is_listed ≡ true) }
         ensures numbered { self.new.is_numbered ≡ self.old.is_numbered }
     {
@@ -206,12 +248,26 @@ impl Gathering {
     pub fn add_numbers(&mut self, listing: &[ListedDir]) -> Result<(), SnapshotError>
         ensures claims { self.new.fragments ≡ self.old.fragments }
         ensures seen { self.new.tree.seen ≡ self.old.tree.seen }
-        ensures told { (facts : List Fact) → AreAsTold self.old.tree.nodes facts
-            → OnOk result (AreAsTold self.new.tree.nodes (facts ++ values_in listing.now)) }
+        ensures told { (facts : List Fact) → HasTold self.old facts
+            → OnOk result (HasTold self.new (facts ++ values_in listing.now)) }
         ensures listed { self.new.is_listed ≡ self.old.is_listed }
         ensures numbered { OnOk result (self.new.is_numbered ≡ true) }
     {
         self.is_numbered = true;
         self.add_values(listing)
     }
+}
+
+/// The directory just below the root that a path is or lies in; of the root's path, the root.
+fn top_of(path: &[u8]) -> &[u8]
+    ensures top { result.now ≡ top_of_path path.now }
+    ensures user { is_user_path path.now ≡ true → is_user_path result.now ≡ true }
+    ensures lies { is_user_path path.now ≡ true → (path.now ≡ []) ⊎ LiesInTop path.now result.now }
+{
+    for end in 1..path.len() {
+        if path[end] == b'/' {
+            return &path[..end];
+        }
+    }
+    path
 }

@@ -2,7 +2,7 @@
 
 ghost use Rattle.std.specs.Prelude.{◌≡◌, ◌==◌, ◌&&◌, ◌*◌, ◌<◌, ℕ, All, List, true, false};
 ghost use Rattle.std.specs.Prelude.{IfOk, IsErrOf, IsOk, OnOk, count_by, length, map, nat_lt, slice_get, string_bytes};
-ghost use Rattle.std.specs.Prelude.{if◌then◌else◌};
+ghost use Rattle.std.specs.Prelude.{if◌then◌else◌, min, slice_index, sum_by};
 ghost use Rattle.std.specs.HashMap.{get_by};
 ghost use Rattle.std.specs.Option.{option_map};
 ghost use Rattle.std.specs.Str.{bytes_eq};
@@ -12,13 +12,17 @@ ghost use Rattle.ceph_snapshot.specs.Authority.{IsUnclaimed, LieAsClaimed, PathT
 ghost use Rattle.ceph_snapshot.specs.Authority.{node_path_at, placed_node, lies_at};
 ghost use Rattle.ceph_snapshot.specs.Doubts.{have_left, is_named, is_named_doubtful, with_listed};
 ghost use Rattle.ceph_snapshot.specs.Doubts.{is_doubt, numbers_with, with_numbers};
+ghost use Rattle.ceph_snapshot.specs.Facts.{Fact};
 ghost use Rattle.ceph_snapshot.specs.Gathered.{foreign_pin, idle_pin, listed_rank, numbers_at, our_pin, path_pin};
 ghost use Rattle.ceph_snapshot.specs.Gathered.{numbers_of, path_pin_at, whose_pin, whose_pin_at, with_owner};
 ghost use Rattle.ceph_snapshot.specs.Gathered.{is_unknown_at, listed_at, listed_of, with_unknown};
+ghost use Rattle.ceph_snapshot.specs.Heard.{BearsOut, HasDirectory, HasSpreadHeat, HasTold};
+ghost use Rattle.ceph_snapshot.specs.Holding.{most_heat};
 ghost use Rattle.ceph_snapshot.specs.Shown.{shown_path};
 ghost use Rattle.ceph_snapshot.specs.Snapshots.{IsSnapshot};
 ghost use Rattle.ceph_snapshot.specs.Sightings.{AreBelowParents, AreCold, HasSeen, LieAt, account_at, account_by};
 ghost use Rattle.ceph_snapshot.specs.Sightings.{account_of, account_with, mean_account, position_at, position_of};
+ghost use Rattle.ceph_snapshot.specs.Sightings.{torn_heat};
 
 use crate::directory::Directory;
 use crate::gathering::{Gathering, Hearsay};
@@ -78,9 +82,8 @@ fn place_all(nodes: &mut Vec<Node>)
     }
 }
 
-/// Adds what a rank has seen at a directory, if it has authority or that is spread. Gives the heat that is spread.
-fn sight(node: &mut Node, seen: Sighting) -> u64
-    ensures spread { result ≡ (if node.old.directory.is_spread then seen.heat else 0) }
+/// Adds what a rank has seen at a directory, if it has authority or that is spread.
+fn sight(node: &mut Node, seen: Sighting)
     ensures account { account_of node.new.directory ≡ account_with true seen node.old.directory }
     ensures place { position_of node.new.directory ≡ position_of node.old.directory }
     ensures pinned { path_pin node.new ≡ path_pin node.old }
@@ -95,13 +98,12 @@ fn sight(node: &mut Node, seen: Sighting) -> u64
             node.most = seen.heat;
             directory.now = seen.rank;
         }
-        return seen.heat;
+        return;
     }
     if directory.now == seen.rank {
         directory.heat = directory.heat.saturating_add(seen.heat);
         directory.writes = directory.writes.saturating_add(seen.writes);
     }
-    0
 }
 
 /// The pin of a directory of its own, whose it is and whether it holds.
@@ -369,6 +371,11 @@ impl Gathering {
             → option_map listed_of (slice_get snapshot.directories.items i)
             ≡ option_map (with_unknown (is_unknown_at self.is_listed self.tops.items i))
             (listed_at self.tree.nodes i)) }
+        ensures there { IfOk result (λ snapshot. All (λ s. HasDirectory snapshot.directories.items s.path)
+            self.tree.seen) }
+        ensures spread { IfOk result (HasSpreadHeat self.tree.seen samples) }
+        ensures told { (facts : List Fact) → HasTold self facts
+            → IfOk result (BearsOut facts self.is_listed self.tree.nodes) }
     {
         let Gathering {
             alloc,
@@ -383,7 +390,8 @@ impl Gathering {
         place_all(&mut nodes);
         confirm(alloc, nodes.as_slice(), hearsay.as_slice())?;
         hold_tops(&mut nodes, tops.as_slice(), is_listed);
-        let spread = see_all(alloc, &mut nodes, sightings.as_slice(), samples)?;
+        see_all(&mut nodes, sightings.as_slice());
+        let spread = spread_heats(alloc, nodes.as_slice(), sightings.as_slice(), samples)?;
         if have_left(&nodes, is_numbered) {
             return Err(SnapshotError::Elsewhere);
         }
@@ -396,8 +404,8 @@ impl Gathering {
     }
 }
 
-/// Adds the heat of a sighting. Gives what of it counts as spread.
-fn see(nodes: &mut Vec<Node>, seen: Sighting) -> u64
+/// Adds the heat of a sighting.
+fn see(nodes: &mut Vec<Node>, seen: Sighting)
     ensures pinned { (i : ℕ) → path_pin_at nodes.new.items i ≡ path_pin_at nodes.old.items i }
     ensures account { (i : ℕ) → account_at nodes.new.items i
         ≡ option_map (λ n. account_with (seen.directory == i) seen n.directory) (slice_get nodes.old.items i) }
@@ -406,29 +414,49 @@ fn see(nodes: &mut Vec<Node>, seen: Sighting) -> u64
 {
     match nodes.get_mut(seen.directory as usize) {
         Some(node) => sight(node, seen),
-        None => 0,
+        None => (),
     }
 }
 
-/// Adds the heat of all sightings. Gives by rank the heat of what is spread, a mean of `samples` samples.
-fn see_all(
-    alloc: Global,
-    nodes: &mut Vec<Node>,
-    sightings: &[Sighting],
-    samples: u64,
-) -> Result<Vec<u64>, AllocError>
-    requires samples { 0 < samples }
-    requires cold { AreCold nodes.old.items }
-    ensures spread { IfOk result (λ spread. length spread.items ≡ 64) }
+/// Adds the heat of all sightings.
+fn see_all(nodes: &mut Vec<Node>, sightings: &[Sighting])
+    requires { AreCold nodes.old.items }
     ensures pinned { (i : ℕ) → path_pin_at nodes.new.items i ≡ path_pin_at nodes.old.items i }
-    ensures account { OnOk result ((i : ℕ) → account_at nodes.new.items i
-        ≡ option_map (λ n. account_by i sightings.now n.directory) (slice_get nodes.old.items i)) }
+    ensures account { (i : ℕ) → account_at nodes.new.items i
+        ≡ option_map (λ n. account_by i sightings.now n.directory) (slice_get nodes.old.items i) }
     ensures place { (i : ℕ) → position_at nodes.new.items i ≡ position_at nodes.old.items i }
     ensures listed { (i : ℕ) → listed_at nodes.new.items i ≡ listed_at nodes.old.items i }
 {
+    for seen in sightings {
+        see(nodes, *seen);
+    }
+}
+
+/// The heat of a sighting, if its directory is spread.
+fn heat_if_torn(nodes: &[Node], seen: Sighting) -> u64
+    ensures { result ≡ (if is_torn_at nodes.now seen.directory then seen.heat else 0) }
+{
+    match nodes.get(seen.directory as usize) {
+        Some(node) if node.directory.is_spread => seen.heat,
+        _ => 0,
+    }
+}
+
+/// By rank the heat of what is spread, a mean of `samples` samples.
+fn spread_heats(
+    alloc: Global,
+    nodes: &[Node],
+    sightings: &[Sighting],
+    samples: u64,
+) -> Result<Vec<u64>, AllocError>
+    requires { 0 < samples }
+    ensures size { IfOk result (λ spread. length spread.items ≡ 64) }
+    ensures heats { IfOk result (λ spread. (rank : ℕ) → rank < 64 → slice_index spread.items rank
+        ≡ min most_heat (sum_by (torn_heat nodes.now samples rank) sightings.now)) }
+{
     let mut spread = vec![in alloc; 0u64; usize::from(RANK_LIMIT)]?;
     for seen in sightings {
-        let heat = see(nodes, *seen) / samples;
+        let heat = heat_if_torn(nodes, *seen) / samples;
         let at = usize::from(seen.rank.number());
         spread[at] = spread[at].saturating_add(heat);
     }

@@ -2,7 +2,7 @@
 ghost use Rattle.std.specs.Prelude.{◌≡◌, ◌++◌, ◌∷◌, [], ℕ, Some, None, is_some, IfOk, IfSome, IsErrOf, OnOk};
 ghost use Rattle.std.specs.Prelude.{◌<◌, All, List, length, map, slice_index_or, take, if◌then◌else◌};
 ghost use Rattle.ceph_snapshot.specs.Authority.{PathText, is_user_path};
-ghost use Rattle.ceph_snapshot.specs.Facts.{AreAsTold, Fact, IsAsTold, IsWith, Root, StillTold, Value};
+ghost use Rattle.ceph_snapshot.specs.Facts.{AreAsTold, Fact, IsAsTold, IsWith, KeepNumbers, Root, StillTold, Value};
 ghost use Rattle.ceph_snapshot.specs.Sightings.{AreBelowParents, AreCold, HaveOwnPaths, IsNumberOf, IsParentOf};
 ghost use Rattle.ceph_snapshot.specs.Sightings.{of_fragment, account_of, with_path};
 
@@ -170,6 +170,7 @@ impl Tree {
         ensures seen { self.new.seen ≡ self.old.seen }
         ensures told { (facts : List Fact) → AreAsTold self.old.nodes facts
             → AreAsTold self.new.nodes (facts ++ Root rank root.now ∷ []) }
+        ensures numbers { KeepNumbers self.old.nodes self.new.nodes }
     {
         add_root(&mut self.nodes[directory as usize], rank, root);
     }
@@ -180,6 +181,7 @@ impl Tree {
         ensures seen { self.new.seen ≡ self.old.seen }
         ensures told { (facts : List Fact) → AreAsTold self.old.nodes facts
             → AreAsTold self.new.nodes (facts ++ Value listed.now ∷ []) }
+        ensures numbers { KeepNumbers self.old.nodes self.new.nodes }
     {
         add_value(&mut self.nodes[directory as usize], listed);
     }

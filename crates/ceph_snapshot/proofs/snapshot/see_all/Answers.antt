@@ -1,4 +1,4 @@
-use Rattle.std.proofs.Common.{◌≡◌, ℕ, List, arith, refl, rules, slice_get, subst, take, take_all}
+use Rattle.std.proofs.Common.{◌≡◌, ℕ, List, arith, refl, slice_get, subst, take, take_all}
 use Rattle.std.specs.Option.{option_map}
 use Rattle.ceph_snapshot.specs.declared.tree.Node.{Node}
 use Rattle.ceph_snapshot.specs.declared.tree.Sighting.{Sighting}
@@ -8,11 +8,10 @@ use Rattle.ceph_snapshot.proofs.snapshot.see_all.Goals as goal
 
 pub loop-seen-init : goal.loop-seen-init
 loop-seen-init c = record {
-  size = search rules;
   pinned = λ i. refl;
   place = λ i. refl;
   listed = λ i. refl;
-  account = account_first c.args.nodes.now.items c.requires.cold;
+  account = account_first c.args.nodes.now.items c.requires;
 }
 
 pub returns-clause-account : goal.returns-clause-account

@@ -1,9 +1,9 @@
-use Rattle.std.proofs.Common.{◌∙◌, ◌<◌, ◌++◌, ◌∷◌, [], List, ap, append_assoc, arith, cond, length, sym, take}
+use Rattle.std.proofs.Common.{◌∙◌, ◌<◌, ◌++◌, ◌∷◌, [], List, ap, append_assoc, arith, cond, length, refl, sym, take}
 use Rattle.ceph_dumps.specs.declared.loads.FragmentHeat.{FragmentHeat}
 use Rattle.ceph_snapshot.specs.Authority.{is_user_path}
 use Rattle.ceph_snapshot.specs.Sightings.{PathHeat, of_fragment, seen_in}
 use Rattle.ceph_snapshot.proofs.Numbers.{seen_more}
-use Rattle.ceph_snapshot.proofs.Told.{still_both}
+use Rattle.ceph_snapshot.proofs.Heard.{still_has}
 use Rattle.ceph_snapshot.proofs.gathering.Gathering.add_loads.Goals as goal
 
 pub loop-fragment-preserved : goal.loop-fragment-preserved
@@ -19,7 +19,8 @@ loop-fragment-preserved c =
           ∙ (ap (λ (hs : List PathHeat). hs ++ more) c.loop-fragment.invariant.seen
           ∙ (append_assoc c.args.self.now.tree.seen before more
           ∙ ap (λ (hs : List PathHeat). c.args.self.now.tree.seen ++ hs) (sym (seen_more c.args.rank loads at one inside (sym c.fragment-item.is)))));
-      told = still_both c.args.self.now.tree.nodes c.loop-fragment.self.tree.nodes c.see.new.self.nodes c.loop-fragment.invariant.told c.in_ok-see.ensures.kept;
+      told = λ facts was.
+          still_has c.loop-fragment.self (record (c.loop-fragment.self) { tree = c.see.new.self }) c.in_ok-see.ensures.kept refl refl refl facts (c.loop-fragment.invariant.told facts was);
       listed = c.loop-fragment.invariant.listed;
       numbered = c.loop-fragment.invariant.numbered;
     }

@@ -1,29 +1,76 @@
-use Rattle.std.proofs.Common.{rules, ◌≡◌, ℕ, List, true, false, ap, append-nil, subst, sym}
+use Rattle.std.proofs.Common.{rules, ◌≡◌, ◌∙◌, ◌++◌, ◌∷◌, [], ℕ, All, IsErrOf, List, Some, true, false, ap, append-nil, refl, subst, sym}
+use Rattle.std.proofs.lemmas.List.Elements.{All-append}
+use Rattle.ceph_snapshot.specs.declared.gathering.Gathering.{Gathering}
+use Rattle.ceph_snapshot.specs.declared.names.Names.{Names}
+use Rattle.ceph_snapshot.specs.declared.snapshot_error.SnapshotError.TheVariants.{TwoClaims}
+use Rattle.ceph_snapshot.specs.declared.tree.Node.{Node}
 use Rattle.ceph_snapshot.specs.Authority.{is_user_path}
-use Rattle.ceph_snapshot.specs.Facts.{AreAsTold, StillTold}
-use Rattle.ceph_snapshot.specs.Sightings.{IsNumberOf}
-use Rattle.ceph_snapshot.proofs.Told.{still_same}
+use Rattle.ceph_snapshot.specs.Facts.{Fact, KeepNumbers, Root, StillTold}
+use Rattle.ceph_snapshot.specs.Heard.{AreHeardAt, AreNumbersOf, IsNotedIn, heard_in, heard_in_fact, heard_in_root, tops_in, tops_in_fact, tops_in_root}
+use Rattle.ceph_snapshot.specs.Sightings.{IsNumberOf, TreeData}
+use Rattle.ceph_snapshot.proofs.Heard.{all_single, claims_kept, heard_kept, heard_same, numbers_kept_of, numbers_same_of, piece, still_has}
 use Rattle.ceph_snapshot.proofs.gathering.Gathering.add_subtree.Goals as goal
-use Rattle.ceph_snapshot.proofs.gathering.Gathering.add_subtree.Goals.{then-root+in_ok-claim, else-root+in-Ok+in_ok-push, else-root+in_default-try_from, then-root-2+in_ok-hold_top, else-root-2}
 
 pub returns-in_default-clause-told : goal.returns-in_default-clause-told
 returns-in_default-clause-told c = λ facts before.
     let user : is_user_path c.args.root.now.path.items ≡ false = search rules in
-    rw (user, append-nil) (c.in_ok-directory.ensures.kept.told facts before)
+    rw (user, append-nil) (still_has c.args.self.now (record (c.args.self.now) { tree = c.number.new.self }) c.in_ok-directory.ensures.kept refl refl refl facts before)
+
+pub hear-requires : goal.hear-requires
+hear-requires c =
+    let path : List ℕ = c.args.root.now.path.items in
+    let number : IsNumberOf c.number.new.self.nodes path c.in-Some.directory = search rules in
+    subst (λ (t : TreeData). IsNumberOf t.nodes path c.in-Some.directory) (sym c.claim.ensures.tree) number
+
+pub hold_top-requires : goal.hold_top-requires
+hold_top-requires c = search rules
 
 pub add_root-requires : goal.add_root-requires
 add_root-requires c =
     let path : List ℕ = c.args.root.now.path.items in
     let number : IsNumberOf c.number.new.self.nodes path c.in-Some.directory = search rules in
-    let same : c.number.new.self ≡ c.if-root.self.tree = search rules in
-    let kept : StillTold c.if-root.self.tree.nodes c.if-root-2.self.tree.nodes =
-    elim c.if-root-2.branch [ then-root-2+in_ok-hold_top w ↦ rw (w.self-is) w.in_ok-hold_top.ensures.told | else-root-2 w ↦ still_same _ _ (ap (λ g. g.tree.nodes) (sym w.self-is)) ] in
-    kept.numbers path c.in-Some.directory (subst (λ v. IsNumberOf v.nodes path c.in-Some.directory) same number)
+    let same : c.hear.new.self.tree ≡ c.number.new.self = c.hear.ensures.tree ∙ c.claim.ensures.tree in
+    c.in_ok-hold_top.ensures.told.numbers path c.in-Some.directory (subst (λ (t : TreeData). IsNumberOf t.nodes path c.in-Some.directory) (sym same) number)
+
+pub returns-in_err-claim-clause-twice : goal.returns-in_err-claim-clause-twice
+returns-in_err-claim-clause-twice c = λ path one two is.
+    let twice : IsErrOf c.claim.result (TwoClaims path one two) = search rules in
+    c.claim.ensures.twice path one two twice
 
 pub returns-clause-told : goal.returns-clause-told
 returns-clause-told c = λ facts before.
-    let user : is_user_path c.args.root.now.path.items ≡ true = search rules in
-    let same : c.number.new.self ≡ c.if-root.self.tree = search rules in
-    let kept : StillTold c.if-root.self.tree.nodes c.if-root-2.self.tree.nodes =
-    elim c.if-root-2.branch [ then-root-2+in_ok-hold_top w ↦ rw (w.self-is) w.in_ok-hold_top.ensures.told | else-root-2 w ↦ still_same _ _ (ap (λ g. g.tree.nodes) (sym w.self-is)) ] in
-    rw user (c.add_root.ensures.told facts (kept.told facts (subst (λ v. AreAsTold v.nodes facts) same (c.in_ok-directory.ensures.kept.told facts before))))
+    let root = c.args.root.now in
+    let f : Fact = Root c.args.rank root in
+    let user : is_user_path root.path.items ≡ true = search rules in
+    let n0 : List Node = c.args.self.now.tree.nodes in
+    let n1 : List Node = c.number.new.self.nodes in
+    let n2 : List Node = c.hold_top.new.self.tree.nodes in
+    let n3 : List Node = c.add_root.new.self.nodes in
+    let heard : Gathering = c.hear.new.self in
+    let names : Names = c.claim.new.self.fragments in
+    let first : StillTold n0 n1 = c.in_ok-directory.ensures.kept in
+    let same : heard.tree ≡ c.number.new.self = c.hear.ensures.tree ∙ c.claim.ensures.tree in
+    let second : StillTold n1 n2 = subst (λ (t : TreeData). StillTold t.nodes n2) same c.in_ok-hold_top.ensures.told in
+    let third : KeepNumbers n2 n3 = c.add_root.ensures.numbers in
+    let told1 : AreHeardAt c.claim.new.self.tree.nodes c.claim.new.self.hearsay.items (heard_in facts) =
+    heard_same n1 c.claim.new.self.tree.nodes c.args.self.now.hearsay.items c.claim.new.self.hearsay.items (heard_in facts) (ap (λ (t : TreeData). t.nodes) (sym c.claim.ensures.tree))
+    (ap (λ h. h.items) (sym c.claim.ensures.hearsay)) (heard_kept n0 n1 c.args.self.now.hearsay.items (heard_in facts) first.numbers before.heard) in
+    let told2 : AreHeardAt n1 c.hold_top.new.self.hearsay.items (heard_in facts ++ heard_in_root c.args.rank root) =
+    heard_same heard.tree.nodes n1 heard.hearsay.items c.hold_top.new.self.hearsay.items (heard_in facts ++ heard_in_root c.args.rank root) (ap (λ (t : TreeData). t.nodes) same)
+    (ap (λ h. h.items) (sym c.hold_top.ensures.hearsay)) (c.in_ok-hear.ensures.heard (heard_in facts) told1) in
+    let told3 : AreHeardAt n3 c.hold_top.new.self.hearsay.items (heard_in facts ++ heard_in_root c.args.rank root) =
+    heard_kept n2 n3 c.hold_top.new.self.hearsay.items _ third (heard_kept n1 n2 c.hold_top.new.self.hearsay.items _ second.numbers told2) in
+    let tops1 : AreNumbersOf heard.tree.nodes heard.tops.items (tops_in facts) =
+    numbers_same_of n1 heard.tree.nodes c.args.self.now.tops.items heard.tops.items (tops_in facts) (ap (λ (t : TreeData). t.nodes) (sym same)) (ap (λ h. h.items) (sym (c.hear.ensures.tops ∙ c.claim.ensures.tops)))
+    (numbers_kept_of n0 n1 c.args.self.now.tops.items (tops_in facts) first.numbers before.tops) in
+    let tops3 : AreNumbersOf n3 c.hold_top.new.self.tops.items (tops_in facts ++ tops_in_root root) =
+    numbers_kept_of n2 n3 c.hold_top.new.self.tops.items _ third (c.in_ok-hold_top.ensures.tops (tops_in facts) tops1) in
+    let claims : All (IsNotedIn names) (facts ++ f ∷ []) =
+    All-append (IsNotedIn names) facts (f ∷ []) (claims_kept c.args.self.now.fragments names facts c.in_ok-claim.ensures.kept before.claims)
+    (all_single (IsNotedIn names) f (λ rank fragment claim. c.in_ok-claim.ensures.claimed fragment claim.1 claim.2 ∙ ap (λ (n : ℕ). Some n) claim.0)) in
+    rw user (record {
+      told = c.add_root.ensures.told facts (second.told facts (first.told facts before.told));
+      heard = subst (AreHeardAt n3 c.hold_top.new.self.hearsay.items) (sym (piece heard_in_fact facts f)) told3;
+      tops = subst (AreNumbersOf n3 c.hold_top.new.self.tops.items) (sym (piece tops_in_fact facts f)) tops3;
+      claims = subst (λ (those : Names). All (IsNotedIn those) (facts ++ f ∷ [])) (sym (c.hold_top.ensures.claims ∙ c.hear.ensures.claims)) claims;
+    })

@@ -3,7 +3,8 @@ use Rattle.std.proofs.lemmas.Bool.{cases_eq}
 use Rattle.std.proofs.lemmas.List.{get_or_read, take_all}
 use Rattle.ceph_dumps.specs.declared.subtrees.SubtreeRoot.{SubtreeRoot}
 use Rattle.ceph_snapshot.specs.Authority.{IsClaim, is_user_path}
-use Rattle.ceph_snapshot.specs.Facts.{AreAsTold, Fact, Root, roots_in}
+use Rattle.ceph_snapshot.specs.Facts.{Fact, Root, roots_in}
+use Rattle.ceph_snapshot.specs.Heard.{HasTold}
 use Rattle.ceph_snapshot.specs.declared.snapshot_error.SnapshotError.TheVariants.{TwoClaims}
 use Rattle.ceph_snapshot.proofs.Told.{filtered_more}
 use Rattle.ceph_snapshot.proofs.gathering.Gathering.add_subtrees.Goals as goal
@@ -30,7 +31,7 @@ loop-root-preserved c =
       kept = λ fragment other before. c.in_ok-add_subtree.ensures.kept fragment other (c.loop-root.invariant.kept fragment other before);
       seen = c.add_subtree.ensures.seen ∙ c.loop-root.invariant.seen;
       told = λ facts before.
-          subst (AreAsTold c.add_subtree.new.self.tree.nodes)
+          subst (HasTold c.add_subtree.new.self)
           (filtered_more (Root c.args.rank) (λ root. is_user_path root.path.items) facts roots at c.root-item.result inside c.root-item.is)
           (c.in_ok-add_subtree.ensures.told (facts ++ roots_in c.args.rank (take at roots)) (c.loop-root.invariant.told facts before));
       listed = c.add_subtree.ensures.listed ∙ c.loop-root.invariant.listed;
@@ -43,5 +44,5 @@ returns-clause-claimed c = λ k d l fragment claim.
 
 pub returns-clause-told : goal.returns-clause-told
 returns-clause-told c =
-    subst (λ (those : List SubtreeRoot). (facts : List Fact) → AreAsTold c.args.self.now.tree.nodes facts → AreAsTold c.loop-root.self.tree.nodes (facts ++ roots_in c.args.rank those))
+    subst (λ (those : List SubtreeRoot). (facts : List Fact) → HasTold c.args.self.now facts → HasTold c.loop-root.self (facts ++ roots_in c.args.rank those))
     (take_all c.loop-root.root-index c.args.roots.now c.loop-root-test.false) c.loop-root.invariant.told
