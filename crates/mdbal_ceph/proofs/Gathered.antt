@@ -1,5 +1,5 @@
 -- What is gathered of dumps, one after another.
-use Rattle.std.proofs.Common.{◌≡◌, ◌≢◌, ◌∙◌, ◌+◌, ◌<◌, ◌++◌, ◌∷◌, [], ℕ, All, Bool, true, false, List, Option, append-nil, append_assoc, ap, arith, cond, get_or, map, refl, slice_get, subst, sym, ⊎_elim}
+use Rattle.std.proofs.Common.{◌≡◌, ◌≢◌, ◌∙◌, ◌+◌, ◌<◌, ◌++◌, ◌∷◌, [], ℕ, All, Bool, true, false, List, Option, append-nil, append_assoc, ap, arith, cond, get_or, map, refl, subst, sym, ⊎_elim}
 use Rattle.std.specs.List.{filter, flat_map, range_with_len}
 use Rattle.std.specs.Option.{option_map}
 use Rattle.std.proofs.lemmas.Bool.{cases_eq}
@@ -13,8 +13,9 @@ use Rattle.ceph_dumps.specs.declared.loads.FragmentHeat.{FragmentHeat}
 use Rattle.ceph_dumps.specs.declared.own_list.OwnPin.{OwnPin}
 use Rattle.ceph_snapshot.specs.Authority.{LieAsClaimed, is_true_of}
 use Rattle.ceph_snapshot.specs.Doubts.{have_left, with_numbers}
-use Rattle.ceph_snapshot.specs.Facts.{AreAsTold, Fact}
-use Rattle.ceph_snapshot.specs.Gathered.{is_unknown_at, listed_at, listed_of, numbers_at, path_pin_at, whose_pin_at, with_owner, with_unknown}
+use Rattle.ceph_snapshot.specs.Facts.{Fact}
+use Rattle.ceph_snapshot.specs.Gathered.{numbers_at, path_pin_at, whose_pin_at, with_owner}
+use Rattle.ceph_snapshot.specs.Heard.{BearsOut, HasDirectory, HasSpreadHeat, HasTold}
 use Rattle.ceph_snapshot.specs.Sightings.{HasSeen, LieAt, PathHeat}
 use Rattle.ceph_snapshot.specs.declared.gathering.Gathering.{Gathering}
 use Rattle.ceph_snapshot.specs.declared.snapshot.Snapshot.{Snapshot}
@@ -26,7 +27,7 @@ use Rattle.mdbal_ceph.specs.Folder.{FileContent}
 pub adds_none : (g : Gathering) → Adds g g [] []
 adds_none g = record {
   seen_more = sym (append-nil g.tree.seen);
-  told = λ before is. subst (AreAsTold g.tree.nodes) (sym (append-nil before)) is;
+  told = λ before is. subst (HasTold g) (sym (append-nil before)) is;
   listed = refl;
   numbered = refl;
 }
@@ -34,7 +35,7 @@ adds_none g = record {
 pub adds_both : (a b c : Gathering) (s t : List PathHeat) (f h : List Fact) → Adds a b s f → Adds b c t h → Adds a c (s ++ t) (f ++ h)
 adds_both a b c s t f h one two = record {
   seen_more = two.seen_more ∙ (ap (λ (xs : List PathHeat). xs ++ t) one.seen_more ∙ append_assoc a.tree.seen s t);
-  told = λ before is. subst (AreAsTold c.tree.nodes) (append_assoc before f h) (two.told (before ++ f) (one.told before is));
+  told = λ before is. subst (HasTold c) (append_assoc before f h) (two.told (before ++ f) (one.told before is));
   listed = two.listed ∙ one.listed;
   numbered = two.numbered ∙ one.numbered;
 }
@@ -92,7 +93,7 @@ adds_dump a b dump adds =
     (subst (Adds a b (rank_seen dump)) (sym (append-nil (rank_facts dump))) adds)
 
 -- what is added where nothing was gathered
-pub gathered : (a b : Gathering) (s : List PathHeat) (f : List Fact) → a.tree.seen ≡ [] → AreAsTold a.tree.nodes [] → a.is_listed ≡ false → a.is_numbered ≡ false → Adds a b s f → HasGathered s f false false b
+pub gathered : (a b : Gathering) (s : List PathHeat) (f : List Fact) → a.tree.seen ≡ [] → HasTold a [] → a.is_listed ≡ false → a.is_numbered ≡ false → Adds a b s f → HasGathered s f false false b
 gathered a b s f seen told listed numbered adds = record {
   seen_is = adds.seen_more ∙ ap (λ (xs : List PathHeat). xs ++ s) seen;
   told = adds.told [] told;
@@ -114,22 +115,23 @@ pub snapshot_of : (g : Gathering) (snapshot : Snapshot) (seen : List PathHeat) (
     → ((i : ℕ) → numbers_at snapshot.directories.items i ≡ option_map (with_numbers g.is_numbered g.tree.seen) (path_pin_at g.tree.nodes i))
     → have_left g.is_numbered g.tree.seen g.tree.nodes ≡ false
     → ((i : ℕ) → whose_pin_at snapshot.directories.items i ≡ option_map (with_owner own ranks) (path_pin_at g.tree.nodes i))
-    → ((i : ℕ) → option_map listed_of (slice_get snapshot.directories.items i) ≡ option_map (with_unknown (is_unknown_at g.is_listed g.tops.items i)) (listed_at g.tree.nodes i))
+    → All (λ s. HasDirectory snapshot.directories.items s.path) g.tree.seen → HasSpreadHeat g.tree.seen count snapshot
+    → ((those : List Fact) → HasTold g those → BearsOut those g.is_listed g.tree.nodes snapshot)
     → IsSnapshotOf seen facts listed numbered count own ranks snapshot
-snapshot_of g snapshot seen facts listed numbered count own ranks all authority heat numbers here owner entries = record {
+snapshot_of g snapshot seen facts listed numbered count own ranks all authority heat numbers here owner there spread told = record {
   nodes = g.tree.nodes;
   placed = authority.0;
-  tops = g.tops.items;
-  told = all.told;
+  told = all.told.told;
   claimed = authority.1;
   lie = authority.3;
   heat = subst (λ (s : List PathHeat). All (HasSeen s count) snapshot.directories.items) all.seen_is heat;
+  there = subst (All (λ s. HasDirectory snapshot.directories.items s.path)) all.seen_is there;
+  spread = subst (λ (s : List PathHeat). HasSpreadHeat s count snapshot) all.seen_is spread;
   here = subst (λ (s : List PathHeat). have_left numbered s g.tree.nodes ≡ false) all.seen_is
       (subst (λ (b : Bool). have_left b g.tree.seen g.tree.nodes ≡ false) all.numbered_is here);
   numbers = λ i.
       subst (λ (s : List PathHeat). numbers_at snapshot.directories.items i ≡ option_map (with_numbers numbered s) (path_pin_at g.tree.nodes i)) all.seen_is
       (subst (λ (b : Bool). numbers_at snapshot.directories.items i ≡ option_map (with_numbers b g.tree.seen) (path_pin_at g.tree.nodes i)) all.numbered_is (numbers i));
   owner = owner;
-  entries = λ i.
-      subst (λ (b : Bool). option_map listed_of (slice_get snapshot.directories.items i) ≡ option_map (with_unknown (is_unknown_at b g.tops.items i)) (listed_at g.tree.nodes i)) all.listed_is (entries i);
+  borne_out = subst (λ (b : Bool). BearsOut facts b g.tree.nodes snapshot) all.listed_is (told facts all.told);
 }

@@ -1,18 +1,18 @@
 -- The list of this program's pins, as it is written and read back.
-use Rattle.std.proofs.Common.{◌≡◌, ◌↔◌, ◌∙◌, ◌==◌, ◌<◌, ◌^◌, ◌&&◌, ◌++◌, ◌∷◌, ℕ, zero, suc, Bool, true, false, List, [], All, Option, Some, None, ap, append_assoc, arith, drop, length, refl, sym, take}
+use Rattle.std.proofs.Common.{◌≡◌, ◌≢◌, ◌↔◌, ◌∙◌, ◌==◌, ◌<◌, ◌^◌, ◌&&◌, ◌++◌, ◌∷◌, ℕ, zero, suc, Bool, true, false, List, [], All, Option, Some, None, ap, append_assoc, arith, drop, length, refl, subst, sym, take}
 use Rattle.std.specs.Prelude.{codes, decimal, is_some, map, nat_le, slice_get, slice_index, if◌then◌else◌}
 use Rattle.std.specs.Int.{IsInRange}
 use Rattle.std.specs.List.{flat_map}
 use Rattle.std.specs.Option.{unwrap_or}
-use Rattle.std.specs.Str.Parse.{AllDigits, digits_value}
+use Rattle.std.specs.Str.Parse.{AllDigits, IsNumeral, digits_value, without_leading_plus}
 use Rattle.std.proofs.Math.Seq.{take-append_seam, drop-append_seam}
 use Rattle.std.proofs.lemmas.Bool.{eqb-true}
 use Rattle.std.proofs.lemmas.Bool.Decides.{nat_tests}
-use Rattle.std.proofs.lemmas.Fmt.{digits_decimal, digits_value-decimal}
+use Rattle.std.proofs.lemmas.Fmt.{decimal_is_IsNumeral, digits_decimal, digits_value-decimal}
 use Rattle.std.proofs.lemmas.List.Elements.{All-append, All-cons, All-head, All-nil, All-tail}
 use Rattle.std.proofs.lemmas.List.Splits.{slice_split_at}
-use Rattle.std.proofs.lemmas.Str.Parse.{IsDigitsTest, numerals_by_value, tells_digits}
-use Rattle.ceph_dumps.specs.OwnList.{ArePinsOfList, IsPinLine, RankPath, behind_digits, digit_count, has_octal, is_digit_to, line_pins, line_rank_path, list_lines, name_byte, named_bytes, octal_byte, rank_path}
+use Rattle.std.proofs.lemmas.Str.Parse.{IsDigitsTest, not_in_digits, numerals_by_value, tells_digits, without_leading_plus_none}
+use Rattle.ceph_dumps.specs.OwnList.{ArePinsOfList, IsNumberText, IsPinLine, RankPath, behind_digits, digit_count, has_octal, is_digit_to, line_pins, line_rank_path, list_lines, name_byte, named_bytes, octal_byte, rank_path}
 use Rattle.ceph_dumps.specs.declared.own_list.OwnPin.{OwnPin}
 use Rattle.ceph_pins.specs.OwnList.{own_line, own_lines, pin_line_of}
 use Rattle.ceph_snapshot.specs.declared.directory.Directory.{Directory}
@@ -141,12 +141,33 @@ line_read (rank, c ∷ cs) fine =
     ∙ ap (λ (name : List ℕ). (rank, 47 ∷ name)) (named_path cs) in
     rw slash (rw (not_empty (decimal rank) (flat_map name_byte (47 ∷ cs)) 32) (ap (λ (pin : RankPath). pin ∷ []) path))
 
+-- the digits of a line are those of the rank
+digits_read : (rank : ℕ) (path : List ℕ) → rank < 2 ^ 64 → take (digit_count (line_text rank path)) (line_text rank path) ≡ decimal rank
+digits_read rank path small =
+    ap (λ (n : ℕ). take n (line_text rank path)) (digits_counted (decimal rank) (flat_map name_byte path) (decimal_digits rank small))
+    ∙ take-append_seam (decimal rank) (32 ∷ flat_map name_byte path)
+
+-- no plus stands before them
+rank_fits : (rank : ℕ) → rank < 2 ^ 64 → IsNumberText (decimal rank)
+rank_fits rank small =
+    let is : IsNumeral 10 (decimal rank) × (digits_value 10 (decimal rank) ≡ rank) = decimal_is_IsNumeral rank small in
+    let none : slice_index (decimal rank) 0 ≢ 43 = not_in_digits (numerals_by_value _ tells_digits) (decimal rank) 43 is.0.1 (λ (digit : IsInRange 48 57 43). omega (arith, digit)) 0 is.0.0 in
+    let bare : without_leading_plus (decimal rank) ≡ decimal rank = without_leading_plus_none (decimal rank) none in
+    record {
+      numeral = subst (IsNumeral 10) (sym bare) is.0;
+      fits = subst (λ (n : ℕ). n < 2 ^ 64) (sym (ap (digits_value 10) bare ∙ is.1)) small;
+    }
+
 -- a line has digits, a blank and a slash
 line_fine : (pin : RankPath) → IsListable pin → IsPinLine (line_text pin.0 pin.1)
 line_fine (rank, []) fine = absurd (omega (arith, fine.1))
 line_fine (rank, c ∷ cs) fine =
     let slash : c ≡ 47 = fine.1 in
-    rw slash (λ _. (ap (λ (text : List ℕ). slice_index text 0) (behind_read rank (47 ∷ cs) fine.0), ap (λ (text : List ℕ). slice_index text 1) (behind_read rank (47 ∷ cs) fine.0)))
+    rw slash (λ _. record {
+      rank = subst IsNumberText (sym (digits_read rank (47 ∷ cs) fine.0)) (rank_fits rank fine.0);
+      blank = ap (λ (text : List ℕ). slice_index text 0) (behind_read rank (47 ∷ cs) fine.0);
+      slash = ap (λ (text : List ℕ). slice_index text 1) (behind_read rank (47 ∷ cs) fine.0);
+    })
 
 -- the text of some pins
 abbrev lines_of : List RankPath → List ℕ

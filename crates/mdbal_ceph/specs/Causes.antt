@@ -5,8 +5,11 @@ use Rattle.std.specs.Global.{Global}
 use Rattle.std.specs.List.{IsAmong}
 use Rattle.mds_types.specs.RankSet.{has_rank}
 use Rattle.ceph_dumps.specs.Balancer.{IsBalancer}
+use Rattle.ceph_dumps.specs.Complete.{IsCompleteError}
 use Rattle.ceph_dumps.specs.HourRecord.{IsBrokenHour, IsHourError}
 use Rattle.ceph_dumps.specs.Inodes.{IsBrokenRecord}
+use Rattle.ceph_dumps.specs.Listing.{IsListingError}
+use Rattle.ceph_dumps.specs.OwnList.{IsPinListError}
 use Rattle.ceph_dumps.specs.declared.cluster.FileSystemRanks.{FileSystemRanks}
 use Rattle.ceph_dumps.specs.declared.dump_error.DumpError.{DumpError}
 use Rattle.ceph_dumps.specs.declared.dump_error.DumpError.TheVariants as dump
@@ -15,6 +18,7 @@ use Rattle.ceph_dumps.specs.declared.subtrees.SubtreeRoot.{SubtreeRoot}
 use Rattle.ceph_snapshot.specs.Authority.{IsUnclaimed, LieAsClaimed, PathText, fragment_of}
 use Rattle.ceph_snapshot.specs.Doubts.{have_left}
 use Rattle.ceph_snapshot.specs.Facts.{AreAsTold, Fact}
+use Rattle.ceph_snapshot.specs.Heard.{AreHeardAt, heard_in}
 use Rattle.ceph_snapshot.specs.Shown.{shown_path}
 use Rattle.ceph_snapshot.specs.declared.gathering.Hearsay.{Hearsay}
 use Rattle.ceph_snapshot.specs.declared.snapshot_error.SnapshotError.{SnapshotError}
@@ -69,14 +73,11 @@ IsListFault reads Refuses name fault.Missing = reads name Missing
 IsListFault reads Refuses name (fault.Refused error) = IsInFile reads Refuses name error
 IsListFault reads Refuses name other = ⊥
 
--- no clause says what a list of pins or of directories, a listing, and the file `complete` are refused for
-abbrev pub IsAnyError : List ℕ → DumpError → Type 0
-IsAnyError bytes error = ⊤
-
--- what is wrong with the list of this name, where one is named
-abbrev pub IsListedFault : (List ℕ → FileContent → Type 0) → Option (List ℕ) → NoResult → Type 0
-IsListedFault reads None error = ⊥
-IsListedFault reads (Some name) error = IsNamedBy name (IsListFault reads IsAnyError name) error
+-- what is wrong with the list of this name, where one is named, and its kind says what it is refused for
+abbrev pub IsListedFault : (List ℕ → FileContent → Type 0) → (List ℕ → DumpError → Type 0) → Option (List ℕ)
+    → NoResult → Type 0
+IsListedFault reads Refuses None error = ⊥
+IsListedFault reads Refuses (Some name) error = IsNamedBy name (IsListFault reads Refuses name) error
 
 -- a folder, and its files
 pub data DumpFile : Type 0 where
@@ -138,8 +139,8 @@ IsRefusedFile refuses (OfRank rank) = refuses OfRoots
 IsRefusedFile refuses (Sample rank sample) = refuses OfLoads
 IsRefusedFile refuses Balancer = IsNoBalancer
 IsRefusedFile refuses Numbers = IsNoNumbers
-IsRefusedFile refuses Complete = IsAnyError
-IsRefusedFile refuses Listing = IsAnyError
+IsRefusedFile refuses Complete = IsCompleteError
+IsRefusedFile refuses Listing = IsListingError
 IsRefusedFile refuses Itself = λ bytes error. ⊥
 IsRefusedFile refuses (Counted sample) = λ bytes error. ⊥
 
@@ -210,6 +211,7 @@ module _ (reads : List ℕ → FileContent → Type 0) (says : List ℕ → Dump
     pub placed : List Node
     pub claimed : LieAsClaimed nodes placed
     pub hearsay : List Hearsay
+    pub heard : AreHeardAt nodes hearsay (heard_in facts)
     pub is : IsUnclaimed placed hearsay path by authority
 
   -- most of the directories for which the dumps name an inode number are doubtful
@@ -240,6 +242,6 @@ module _ (reads : List ℕ → FileContent → Type 0) (says : List ℕ → Dump
   IsFolderFault folder why.TooMany = ⊤
   IsFolderFault folder other = ⊥
 
-  -- or what is wrong is in the list of this name, where one is named
+  -- or what is wrong is in the list of pins of this name, where one is named
   abbrev pub IsCollectFault : List ℕ → Option (List ℕ) → NoResult → Type 0
-  IsCollectFault folder list error = IsFolderFault folder error ⊎ IsListedFault reads list error
+  IsCollectFault folder list error = IsFolderFault folder error ⊎ IsListedFault reads IsPinListError list error

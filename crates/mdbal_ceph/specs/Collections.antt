@@ -1,6 +1,6 @@
 -- What was collected: of the files of a folder, and of the list of pins of an earlier plan.
 use Rattle.std.specs.Prelude.{◌≡◌, ◌⊎◌, ◌++◌, All, Bool, ℕ, List, [], Option, Some, None, Vec, codes, false, is_some}
-use Rattle.std.specs.Prelude.{string_bytes, slice_get, true}
+use Rattle.std.specs.Prelude.{string_bytes, true}
 use Rattle.std.specs.Global.{Global}
 use Rattle.std.specs.Option.{option_map, option_map_or}
 use Rattle.ceph_dumps.specs.Balancer.{IsBalancer}
@@ -12,8 +12,9 @@ use Rattle.ceph_dumps.specs.declared.own_list.OwnPin.{OwnPin}
 use Rattle.ceph_snapshot.specs.Authority.{LieAsClaimed}
 use Rattle.ceph_snapshot.specs.Doubts.{have_left, with_numbers}
 use Rattle.ceph_snapshot.specs.Facts.{AreAsTold, Fact}
-use Rattle.ceph_snapshot.specs.Gathered.{foreign_pin, idle_pin, is_unknown_at, listed_at, listed_of, listed_rank}
-use Rattle.ceph_snapshot.specs.Gathered.{numbers_at, our_pin, path_pin_at, whose_pin_at, with_owner, with_unknown}
+use Rattle.ceph_snapshot.specs.Gathered.{foreign_pin, idle_pin, listed_rank, numbers_at, our_pin, path_pin_at}
+use Rattle.ceph_snapshot.specs.Gathered.{whose_pin_at, with_owner}
+use Rattle.ceph_snapshot.specs.Heard.{BearsOut, HasDirectory, HasSpreadHeat, HasTold}
 use Rattle.ceph_snapshot.specs.Sightings.{HasSeen, LieAt, PathHeat}
 use Rattle.ceph_snapshot.specs.Snapshots.{IsSnapshot}
 use Rattle.ceph_snapshot.specs.declared.directory.Directory.{Directory}
@@ -75,35 +76,37 @@ AreLeftOf reads (Some name) leave = IsInFile reads ArePathsOfList name leave
 pub record HasGathered (seen : List PathHeat) (facts : List Fact) (listed numbered : Bool) (g : Gathering)
     : Type 0 where
   pub seen_is : g.tree.seen ≡ seen
-  pub told : AreAsTold g.tree.nodes facts
+  pub told : HasTold g facts
   pub listed_is : g.is_listed ≡ listed
   pub numbered_is : g.is_numbered ≡ numbered
 
 -- to what is gathered comes this heat, and then what is said of roots
 pub record Adds (old new : Gathering) (seen : List PathHeat) (facts : List Fact) : Type 0 where
   pub seen_more : new.tree.seen ≡ old.tree.seen ++ seen
-  pub told : (before : List Fact) → AreAsTold old.tree.nodes before → AreAsTold new.tree.nodes (before ++ facts)
+  pub told : (before : List Fact) → HasTold old before → HasTold new (before ++ facts)
   pub listed : new.is_listed ≡ old.is_listed
   pub numbered : new.is_numbered ≡ old.is_numbered
 
 -- the directories are those that were seen and told of. Each lies where the ranks claim, and has the mean of the heat
--- that the ranks saw that have it; its pin, entries, policy and inode number are those that were told last
+-- that the ranks saw that have it; its pin, entries, policy and inode number are those that were told last. What each
+-- rank saw of those that are spread counts as spread at that rank. Each lies where ranks take it to be, and no fragment
+-- is claimed by two
 pub record IsSnapshotOf (seen : List PathHeat) (facts : List Fact) (listed numbered : Bool) (count : ℕ)
     (own : List OwnPin) (ranks : ℕ) (snapshot : Snapshot) : Type 0 where
   pub nodes : List Node
   pub placed : List Node
-  pub tops : List ℕ
   pub told : AreAsTold nodes facts
   pub claimed : LieAsClaimed nodes placed
   pub lie : LieAt placed snapshot.directories.items
   pub heat : All (HasSeen seen count) snapshot.directories.items
+  pub there : All (λ s. HasDirectory snapshot.directories.items s.path) seen
+  pub spread : HasSpreadHeat seen count snapshot
   pub here : have_left numbered seen nodes ≡ false
   pub numbers : (i : ℕ) → numbers_at snapshot.directories.items i
       ≡ option_map (with_numbers numbered seen) (path_pin_at nodes i)
   pub owner : (i : ℕ) → whose_pin_at snapshot.directories.items i
       ≡ option_map (with_owner own ranks) (path_pin_at nodes i)
-  pub entries : (i : ℕ) → option_map listed_of (slice_get snapshot.directories.items i)
-      ≡ option_map (with_unknown (is_unknown_at listed tops i)) (listed_at nodes i)
+  pub borne_out : BearsOut facts listed nodes snapshot
 
 -- the directories are those of the dumps of the ranks alone, of the files of a folder
 pub record IsOfRanks (reads : List ℕ → FileContent → Type 0) (says : List ℕ → DumpValue → Type 0) (folder : List ℕ)

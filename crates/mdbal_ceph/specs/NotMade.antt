@@ -7,7 +7,7 @@ use Rattle.std.specs.Option.{option_map}
 use Rattle.mds_types.specs.RankSet.{has_rank}
 use Rattle.mds_types.specs.declared.limits.TheConstants.{DIR_LIMIT}
 use Rattle.mds_types.specs.declared.problem.ProblemRow.{ProblemRow}
-use Rattle.ceph_dumps.specs.PathList.{path_bytes}
+use Rattle.ceph_dumps.specs.PathList.{IsPathListError, path_bytes}
 use Rattle.ceph_dumps.specs.declared.cluster.FileSystemRanks.{FileSystemRanks}
 use Rattle.ceph_dumps.specs.declared.file_system.FileSystem.{FileSystem}
 use Rattle.ceph_folding.specs.Folding.{IsFolded}
@@ -204,7 +204,7 @@ module _ (reads : List ℕ → FileContent → Type 0) (says : List ℕ → Dump
   IsReadingFault settings error =
       IsEarlierFault (map (λ name. name.now) settings.past.earlier.items) error
       ⊎ (IsCollectFault reads says refuses settings.folder.now (option_map (λ name. name.now) settings.own) error
-      ⊎ IsListedFault reads (option_map (λ name. name.now) settings.leave) error)
+      ⊎ IsListedFault reads IsPathListError (option_map (λ name. name.now) settings.leave) error)
 
   pub record IsPlanningFault (settings : PlanSettings) (error : NoResult) : Type 0 where
     pub collected : Collected

@@ -2,6 +2,8 @@
 ghost use Rattle.std.specs.Prelude.{◌≡◌, ◌<◌, ◌++◌, [], IfErr, IfOk, List, OnOk, Option, codes, false, is_some};
 ghost use Rattle.std.specs.Option.{option_map, option_map_or};
 ghost use Rattle.ceph_dumps.specs.Listing.{AreValuesListed};
+ghost use Rattle.ceph_dumps.specs.OwnList.{IsPinListError};
+ghost use Rattle.ceph_dumps.specs.PathList.{IsPathListError};
 ghost use Rattle.ceph_dumps.specs.declared.listing.ListedDir.{ListedDir};
 ghost use Rattle.ceph_dumps.specs.declared.loads.FragmentHeat.{FragmentHeat};
 ghost use Rattle.ceph_dumps.specs.declared.subtrees.SubtreeRoot.{SubtreeRoot};
@@ -259,7 +261,8 @@ fn own_pins<F: Folder>(
     path: Option<&str>,
 ) -> Result<Option<Vec<OwnPin>>, NoResult>
     ensures own { IfOk result (IsOwnOf (F.reads files.now) (option_map (λ name. name.now) path.entry)) }
-    ensures failed { IfErr result (IsListedFault (F.reads files.now) (option_map (λ name. name.now) path.entry)) }
+    ensures failed { IfErr result (IsListedFault (F.reads files.now) IsPinListError
+        (option_map (λ name. name.now) path.entry)) }
 {
     match path {
         Some(path) => Ok(Some(own_list_of(files, alloc, path)?)),
@@ -275,7 +278,8 @@ pub fn read_left<F: Folder>(
 ) -> Result<Vec<Vec<u8>>, NoResult>
     ensures leave { IfOk result (λ leave. AreLeftOf (F.reads files.now) (option_map (λ name. name.now) path.entry)
         leave.items) }
-    ensures failed { IfErr result (IsListedFault (F.reads files.now) (option_map (λ name. name.now) path.entry)) }
+    ensures failed { IfErr result (IsListedFault (F.reads files.now) IsPathListError
+        (option_map (λ name. name.now) path.entry)) }
 {
     match path {
         Some(path) => path_list_of(files, alloc, path),

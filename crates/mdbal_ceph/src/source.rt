@@ -1,10 +1,10 @@
 //! The files of a folder that `ceph/collect` wrote, each read as what it is.
 ghost use Rattle.std.specs.Prelude.{◌≡◌, ◌<◌, ◌≤◌, IfErr, IfOk, codes, false, option_map, string_bytes};
 ghost use Rattle.ceph_dumps.specs.Listing.{AreValuesListed};
-ghost use Rattle.ceph_dumps.specs.OwnList.{ArePinsOfList};
-ghost use Rattle.ceph_dumps.specs.PathList.{ArePathsOfList};
-ghost use Rattle.mdbal_ceph.specs.Causes.{IsAnyError, IsFolderFault, IsListFault, IsNamedBy, IsNoBytes, IsRankIn};
-ghost use Rattle.mdbal_ceph.specs.Causes.{IsSampleIn, IsUnread};
+ghost use Rattle.ceph_dumps.specs.OwnList.{ArePinsOfList, IsPinListError};
+ghost use Rattle.ceph_dumps.specs.PathList.{ArePathsOfList, IsPathListError};
+ghost use Rattle.mdbal_ceph.specs.Causes.{IsFolderFault, IsListFault, IsNamedBy, IsNoBytes, IsRankIn, IsSampleIn};
+ghost use Rattle.mdbal_ceph.specs.Causes.{IsUnread};
 ghost use Rattle.mdbal_ceph.specs.Dumps.{AreInodes, IsLoadsFile, IsRootsFile, IsSampleCount, Ranks};
 ghost use Rattle.mdbal_ceph.specs.Dumps.{file_in, loads_file, subtrees_file};
 ghost use Rattle.mdbal_ceph.specs.Folder.{Bytes, IsInFile, IsInFileIfAny, Missing, content_of};
@@ -292,7 +292,7 @@ pub(crate) fn own_list_of<F: Folder>(
     path: &str,
 ) -> Result<Vec<OwnPin>, NoResult>
     ensures own { IfOk result (λ own. IsInFile (F.reads files.now) ArePinsOfList path.now own.items) }
-    ensures failed { IfErr result (IsNamedBy path.now (IsListFault (F.reads files.now) IsAnyError path.now)) }
+    ensures failed { IfErr result (IsNamedBy path.now (IsListFault (F.reads files.now) IsPinListError path.now)) }
 {
     let bytes = bytes_of(files, alloc, path)?;
     match read_own_list(alloc, &bytes) {
@@ -308,7 +308,7 @@ pub(crate) fn path_list_of<F: Folder>(
     path: &str,
 ) -> Result<Vec<Vec<u8>>, NoResult>
     ensures paths { IfOk result (λ paths. IsInFile (F.reads files.now) ArePathsOfList path.now paths.items) }
-    ensures failed { IfErr result (IsNamedBy path.now (IsListFault (F.reads files.now) IsAnyError path.now)) }
+    ensures failed { IfErr result (IsNamedBy path.now (IsListFault (F.reads files.now) IsPathListError path.now)) }
 {
     let bytes = bytes_of(files, alloc, path)?;
     match read_path_list(alloc, &bytes) {

@@ -1,6 +1,7 @@
 use Rattle.std.proofs.Common.{◌∙◌, ◌++◌, List, None, Some, append-nil, false, is_some, subst, sym}
 use Rattle.ceph_dumps.specs.declared.listing.ListedDir.{ListedDir}
-use Rattle.ceph_snapshot.specs.Facts.{AreAsTold, Fact, values_in}
+use Rattle.ceph_snapshot.specs.Facts.{Fact, values_in}
+use Rattle.ceph_snapshot.specs.Heard.{HasTold}
 use Rattle.mdbal_ceph.specs.Collections.{HasGathered}
 use Rattle.mdbal_ceph.specs.Dumps.{listed_facts}
 use Rattle.std.proofs.lemmas.Result.{err_from_is_err_and}
@@ -15,7 +16,7 @@ returns-clause-added g c = λ seen facts was.
       rw c.in-Some.is at c.in_ok-listing.ensures.listing,
       record {
         seen_is = c.add_listing.ensures.seen ∙ numbers.seen_is;
-        told = subst (λ (those : List ListedDir). AreAsTold c.add_listing.new.self.tree.nodes (before ++ values_in those)) c.as_slice.ensures.value
+        told = subst (λ (those : List ListedDir). HasTold c.add_listing.new.self (before ++ values_in those)) c.as_slice.ensures.value
             (c.in_ok-add_listing.ensures.told before numbers.told);
         listed_is = c.in_ok-add_listing.ensures.listed;
         numbered_is = c.add_listing.ensures.numbered ∙ numbers.numbered_is;

@@ -1,6 +1,6 @@
 use Rattle.std.proofs.Common.{◌≡◌, ◌++◌, List, append-nil, subst, sym}
 use Rattle.ceph_dumps.specs.declared.loads.FragmentHeat.{FragmentHeat}
-use Rattle.ceph_snapshot.specs.Facts.{AreAsTold}
+use Rattle.ceph_snapshot.specs.Heard.{HasTold}
 use Rattle.ceph_snapshot.specs.Sightings.{seen_in}
 use Rattle.std.proofs.lemmas.Result.{err_from_is_err_and}
 use Rattle.mdbal_ceph.proofs.Faults.{growth_in, growth_is}
@@ -13,7 +13,7 @@ returns-clause-added g c = (
   record {
     seen_more = subst (λ (those : List FragmentHeat). c.add_loads.new.self.tree.seen ≡ c.args.gathering.now.tree.seen ++ seen_in c.args.rank those) c.as_slice.ensures.value
         c.in_ok-add_loads.ensures.seen;
-    told = λ before is. subst (AreAsTold c.add_loads.new.self.tree.nodes) (sym (append-nil before)) (c.in_ok-add_loads.ensures.told.told before is);
+    told = λ before is. subst (HasTold c.add_loads.new.self) (sym (append-nil before)) (c.in_ok-add_loads.ensures.told before is);
     listed = c.add_loads.ensures.listed;
     numbered = c.add_loads.ensures.numbered;
   },

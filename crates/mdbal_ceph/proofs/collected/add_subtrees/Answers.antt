@@ -1,6 +1,7 @@
 use Rattle.std.proofs.Common.{Err, ap, ◌∙◌, ◌++◌, List, append-nil, subst, sym}
 use Rattle.ceph_dumps.specs.declared.subtrees.SubtreeRoot.{SubtreeRoot}
-use Rattle.ceph_snapshot.specs.Facts.{AreAsTold, roots_in}
+use Rattle.ceph_snapshot.specs.Facts.{roots_in}
+use Rattle.ceph_snapshot.specs.Heard.{HasTold}
 use Rattle.std.proofs.lemmas.Result.{err_from_is_err_and}
 use Rattle.mdbal_ceph.proofs.Faults.{claim_in, twice_claimed}
 use Rattle.mdbal_ceph.proofs.collected.add_subtrees.Goals as goal
@@ -12,7 +13,7 @@ returns-in-Ok-clause-added g c = (
   record {
     seen_more = c.add_subtrees.ensures.seen ∙ sym (append-nil c.args.gathering.now.tree.seen);
     told = λ before is.
-        subst (λ (those : List SubtreeRoot). AreAsTold c.add_subtrees.new.self.tree.nodes (before ++ roots_in c.args.rank those)) c.as_slice.ensures.value
+        subst (λ (those : List SubtreeRoot). HasTold c.add_subtrees.new.self (before ++ roots_in c.args.rank those)) c.as_slice.ensures.value
         (c.in-Ok.ensures.told before is);
     listed = c.add_subtrees.ensures.listed;
     numbered = c.add_subtrees.ensures.numbered;

@@ -41,7 +41,7 @@ returns-clause-collected g c =
           subst (λ (own : List OwnPin). IsSnapshotOf (all_seen ranks.0) (all_facts dumps) (is_some listing.0) (is_some c.in_ok-source.source.mounted) c.in_ok-source.source.samples own c.in_ok-cluster.cluster.ranks c.in-Ok.snapshot)
           c.listed.ensures
           (snapshot_of c.add_listing.new.gathering c.in-Ok.snapshot (all_seen ranks.0) (all_facts dumps) (is_some listing.0) (is_some c.in_ok-source.source.mounted) c.in_ok-source.source.samples c.listed.result.now
-          c.in_ok-cluster.cluster.ranks listing.2 found.authority found.seen found.numbers (found.here (search rules)) found.owner found.listed);
+          c.in_ok-cluster.cluster.ranks listing.2 found.authority found.seen found.numbers (found.here (search rules)) found.owner found.there found.spread found.told);
     }
 
 pub returns-clause-ours : goal.returns-clause-ours
@@ -110,7 +110,7 @@ returns-in-Err-clause-failed g c =
       dumps = dumps;
       dumps_of = record { ranks = ranks_of; listing = listing.1 };
       nodes = c.add_listing.new.gathering.tree.nodes;
-      told = listing.2.told;
+      told = listing.2.told.told;
       left = rw (listing.2.seen_is, listing.2.numbered_is) at (c.in-Err.ensures.elsewhere (ap Err is));
     })
     (λ path by authority is.
@@ -119,9 +119,10 @@ returns-in-Err-clause-failed g c =
       facts = all_facts dumps;
       facts_are = record { dumps = dumps; ranks = ranks_of; are = inr (record { ranks = ranks_of; listing = listing.1 }, refl) };
       nodes = c.add_listing.new.gathering.tree.nodes;
-      told = listing.2.told;
+      told = listing.2.told.told;
       placed = u.0;
       claimed = u.1;
       hearsay = c.add_listing.new.gathering.hearsay.items;
+      heard = listing.2.told.heard;
       is = u.2;
     })))

@@ -25,7 +25,7 @@ returns-in-Ok-clause-ranks g c =
       };
       is = found.snapshot;
       directories = snapshot_of c.in_ok-gathering.gathering c.in-Ok.snapshot (all_seen ranks.0) (root_facts ranks.0) false false c.in_ok-source.source.samples [] c.in_ok-ranks.field-0.ranks ranks.2
-          found.authority found.seen found.numbers (found.here (search rules)) found.owner found.listed;
+          found.authority found.seen found.numbers (found.here (search rules)) found.owner found.there found.spread found.told;
     }
 
 pub returns-in_err-gathering-clause-failed : goal.returns-in_err-gathering-clause-failed
@@ -65,9 +65,10 @@ returns-clause-failed g c =
         are = inl refl;
       };
       nodes = c.in_ok-gathering.gathering.tree.nodes;
-      told = ranks.2.told;
+      told = ranks.2.told.told;
       placed = u.0;
       claimed = u.1;
       hearsay = c.in_ok-gathering.gathering.hearsay.items;
+      heard = ranks.2.told.heard;
       is = u.2;
     }))

@@ -11,4 +11,4 @@ returns-in_err-bytes-clause-failed g c =
 
 pub returns-clause-failed : goal.returns-clause-failed
 returns-clause-failed g c =
-    refused_in (g.F.Folder.reads c.args.source.now.files.now) g.D.DumpReader.says g.D.DumpReader.refuses c.args.source.now.folder.now Listing _ _ c.in-Err.error tt (c.as_str-path.ensures.value ∙ c.in_ok-path.ensures) (c.in-Some.bytes.items, rw c.in-Some.is at c.in_ok-bytes.ensures.found, tt) c.refused.ensures
+    refused_in (g.F.Folder.reads c.args.source.now.files.now) g.D.DumpReader.says g.D.DumpReader.refuses c.args.source.now.folder.now Listing _ _ c.in-Err.error tt (c.as_str-path.ensures.value ∙ c.in_ok-path.ensures) (c.in-Some.bytes.items, rw c.in-Some.is at c.in_ok-bytes.ensures.found, rw c.deref.ensures.value at c.in-Err.ensures.refused) c.refused.ensures
