@@ -1,7 +1,7 @@
 -- Hours that were not seen: what directories have at or below them, and which come first.
-use Rattle.std.proofs.Common.{◌≡◌, ◌≢◌, ◌∙◌, ◌⊎◌, ◌+◌, ◌*◌, ◌<◌, ◌≤◌, ◌==◌, ◌&&◌, ◌++◌, ◌∷◌, ◌^◌, [], ℕ, zero, suc, Bool, true, false, List, Option, Some, ap, arith, cond, get_or, inl, inr, length, length-append, nat_lt, refl, set, slice_index, subst, sym, ⊎_elim}
+use Rattle.std.proofs.Common.{◌≡◌, ◌≢◌, ◌∙◌, ◌⊎◌, ◌↔◌, ◌+◌, ◌*◌, ◌<◌, ◌≤◌, ◌==◌, ◌&&◌, ◌++◌, ◌∷◌, ◌^◌, [], ℕ, zero, suc, Bool, true, false, List, Option, Some, ap, arith, cond, get_or, inl, inr, length, length-append, nat_lt, refl, set, slice_index, subst, sym, ⊎_elim}
 use Rattle.std.proofs.lemmas.Bool.{and_parts, cases_Bool, cases_eq, eq-eqb, eqb-true, lt-ltb, ltb-true, ne_eqb}
-use Rattle.std.proofs.lemmas.List.{get_or-set_other, get_or-set_same, length-set}
+use Rattle.std.proofs.lemmas.List.{get_or-set_other, get_or-set_same, get_or_append_left, get_or_push, length-set}
 use Rattle.mds_types.specs.declared.problem.ProblemRow.{ProblemRow}
 use Rattle.mds_types.specs.CutTable.{is_child, sum_of_children}
 use Rattle.mds_types.specs.Problem.{IsForest, heat_at, inodes_at, parent_at}
@@ -9,7 +9,8 @@ use Rattle.mds_types.specs.Sums.{count_below, sum_below}
 use Rattle.mds_types.proofs.SumsLemmas.{sum_below-same, sum_below_more}
 use Rattle.residual_cut.proofs.LabelLemmas.{slice_index-last, slice_index-push}
 use Rattle.residual_cut.specs.Subtrees.{AreSums}
-use Rattle.ceph_plan.specs.MadeHours.{AreLargest, AreMadeHours, AreTotals, AreWorth, HaveNumbers, IsLarge, IsMadeHour, IsWarm, IsWorthMaking, free_children, heat_mark, is_free_child, made_parent}
+use Rattle.ceph_plan.specs.MadeHours.{AreLargest, AreMadeOver, AreTotals, AreUncounted, AreWorth, HaveNumbers, IsFilled, IsLarge, IsMadeHour, IsWarm, IsWorthMaking, MayTake}
+use Rattle.ceph_plan.specs.MadeHours.{free_children, heat_mark, is_free_child, made_parent}
 use Rattle.ceph_plan.specs.declared.hours.Hour.{Hour}
 use Rattle.ceph_plan.specs.declared.made.MadeHour.{MadeHour}
 use Rattle.std.specs.List.{slice_get}
@@ -132,6 +133,42 @@ module _ (rows : List ProblemRow) (heats : List ℕ) (hot inodes : ℕ → ℕ) 
 
   pub large : inodes 0 ≤ inodes d * 50 → IsWarm rows heats d ⊎ IsLarge rows d
   large many = inr (record { inodes = inodes; are = inodes_are; many = omega (arith, many) })
+
+  pub may-take : (0 < hot d) ⊎ ((1 < inodes d) ⊎ (inodes 0 ≤ length rows)) → MayTake rows heats d
+  may-take why =
+      ⊎_elim (λ (some : 0 < hot d). inl (record { hot = hot; are = hot_are; some = some }))
+      (λ (rest : (1 < inodes d) ⊎ (inodes 0 ≤ length rows)).
+      inr (⊎_elim (λ (many : 1 < inodes d). inl (record { inodes = inodes; are = inodes_are; some = many }))
+      (λ (none : inodes 0 ≤ length rows). inr (record { inodes = inodes; are = inodes_are; none = none })) rest))
+      why
+
+  pub must-take : MayTake rows heats d → (0 < hot d) ⊎ ((1 < inodes d) ⊎ (inodes 0 ≤ length rows))
+  must-take why =
+      ⊎_elim (λ (warm : IsWarm rows heats d).
+      let same : warm.hot d ≡ hot d = one-total rows (heat_mark heats) warm.hot hot d forest warm.are hot_are inside in
+      inl (omega (arith, warm.some, same)))
+      (λ (rest : IsFilled rows d ⊎ AreUncounted rows).
+      inr (⊎_elim (λ (filled : IsFilled rows d).
+      let same : filled.inodes d ≡ inodes d = one-total rows (inodes_at rows) filled.inodes inodes d forest filled.are inodes_are inside in
+      inl (omega (arith, filled.some, same)))
+      (λ (bare : AreUncounted rows).
+      let same : bare.inodes 0 ≡ inodes 0 = one-total rows (inodes_at rows) bare.inodes inodes 0 forest bare.are inodes_are (omega (arith, inside)) in
+      inr (omega (arith, bare.none, same)))
+      rest))
+      why
+
+-- of one row more it is known whether load may come to it
+pub taking-more : (P : ℕ → Type 0) (found new : List Bool) (i : ℕ) (b : Bool) → new ≡ found ++ b ∷ [] → length found ≡ i
+    → ((d : ℕ) → d < i → get_or found d false ≡ true ↔ P d) → (b ≡ true ↔ P i) → (d : ℕ) → d < i + 1 → get_or new d false ≡ true ↔ P d
+taking-more P found new i b new_is size before last d l =
+    subst (λ (xs : List Bool). get_or xs d false ≡ true ↔ P d) (sym new_is)
+    (⊎_elim (λ (here : d ≡ i).
+    subst (λ (x : Bool). x ≡ true ↔ P d) (sym (ap (λ (j : ℕ). get_or (found ++ b ∷ []) j false) here ∙ get_or_push found b false i size))
+    (subst (λ (j : ℕ). b ≡ true ↔ P j) (sym here) last))
+    (λ (other : d ≢ i).
+    let low : d < i = omega (arith, l, other) in
+    subst (λ (x : Bool). x ≡ true ↔ P d) (sym (get_or_append_left found (b ∷ []) false d (omega (arith, low, size)))) (before d low))
+    (cases_eq d i))
 
 -- the greatest of these numbers that were taken so far: what is left has none of them
 pub record AreTaken (numbers left found : List ℕ) : Type 0 where
@@ -314,7 +351,7 @@ module _ (rows : List ProblemRow) (free : List Bool) (now : Hour) (count : ℕ) 
       ap (free_children rows free) (same k (there k l))
       ∙ sym (some-worth rows free now.heats.items worth (slice_index parents k) is (omega (arith, largest.inside k (there k l), is.size)) (largest.many k (there k l))).1
 
-  pub all-made : AreMadeHours rows free now count found
+  pub all-made : AreMadeOver rows free now count found
   all-made = record {
     few = omega (arith, size, largest.few);
     each = each;

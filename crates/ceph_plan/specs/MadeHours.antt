@@ -1,6 +1,6 @@
 -- Hours that were not seen: half of the load lies alike on the children of one directory, the rest is as it is now.
-use Rattle.std.specs.Prelude.{◌≡◌, ◌≢◌, ◌<◌, ◌≤◌, ◌⊎◌, ◌+◌, ◌*◌, ◌/◌, ◌^◌, ◌&&◌, ℕ, Bool, List, Some, false, length}
-use Rattle.std.specs.Prelude.{min, slice_get, slice_index, slice_index_or, if◌then◌else◌}
+use Rattle.std.specs.Prelude.{◌≡◌, ◌≢◌, ◌<◌, ◌≤◌, ◌⊎◌, ◌↔◌, ◌+◌, ◌*◌, ◌/◌, ◌^◌, ◌&&◌, ℕ, Bool, List, Some, false}
+use Rattle.std.specs.Prelude.{length, min, true, slice_get, slice_index, slice_index_or, if◌then◌else◌}
 use Rattle.std.specs.Option.{option_map_or}
 use Rattle.mds_types.specs.declared.problem.ProblemError.{ProblemError}
 use Rattle.mds_types.specs.declared.problem.ProblemRow.{ProblemRow}
@@ -53,7 +53,29 @@ pub record IsLarge (rows : List ProblemRow) (d : ℕ) : Type 0 where
   pub are : AreTotals rows (inodes_at rows) inodes
   pub many : inodes 0 * 2 ≤ inodes d * 100
 
--- an hour may be made for row d: it has enough children that are to be planned, and is warm or large
+-- there is more than one inode at row d or below it
+pub record IsFilled (rows : List ProblemRow) (d : ℕ) : Type 0 where
+  pub inodes : ℕ → ℕ
+  pub are : AreTotals rows (inodes_at rows) inodes
+  pub some : 1 < inodes d
+
+-- of all rows no more inodes are known than one each
+pub record AreUncounted (rows : List ProblemRow) : Type 0 where
+  pub inodes : ℕ → ℕ
+  pub are : AreTotals rows (inodes_at rows) inodes
+  pub none : inodes 0 ≤ length rows
+
+-- load may come to row d: it is warm or not empty, or it isn't known which rows are empty
+abbrev pub MayTake : List ProblemRow → List ℕ → ℕ → Type 0
+MayTake rows heats d = IsWarm rows heats d ⊎ (IsFilled rows d ⊎ AreUncounted rows)
+
+-- the rows that are to be planned and to which load may come
+pub record AreTaking (rows : List ProblemRow) (free : List Bool) (heats : List ℕ) (taking : List Bool) : Type 0 where
+  pub size : length taking ≡ length rows
+  pub each : (d : ℕ) → d < length rows → (slice_index_or taking d false ≡ true)
+      ↔ ((slice_index_or free d false ≡ true) × MayTake rows heats d)
+
+-- an hour may be made for row d: it has enough children to which load may come, and is warm or large
 pub record IsWorthMaking (rows : List ProblemRow) (free : List Bool) (heats : List ℕ) (d : ℕ) : Type 0 where
   pub many : MADE_CHILDREN ≤ free_children rows free d
   pub why : IsWarm rows heats d ⊎ IsLarge rows d
@@ -108,7 +130,7 @@ made_parent found k = option_map_or (λ (one : MadeHour). one.parent) (slice_get
 
 -- at most `count` made hours, each for another directory, those with the most children first, and what is left out has
 -- no more than each that is there
-pub record AreMadeHours (rows : List ProblemRow) (free : List Bool) (now : Hour) (count : ℕ) (found : List MadeHour)
+pub record AreMadeOver (rows : List ProblemRow) (free : List Bool) (now : Hour) (count : ℕ) (found : List MadeHour)
     : Type 0 where
   pub few : length found ≤ count
   pub each : (k : ℕ) (one : MadeHour) → slice_get found k ≡ Some one → IsMadeHour rows free now one
@@ -119,6 +141,13 @@ pub record AreMadeHours (rows : List ProblemRow) (free : List Bool) (now : Hour)
       → ((k : ℕ) → k < length found → made_parent found k ≢ d)
       → (length found ≡ count) × ((k : ℕ) → k < length found
       → free_children rows free d ≤ free_children rows free (made_parent found k))
+
+-- at most `count` made hours, for the children that are to be planned and to which load may come
+pub record AreMadeHours (rows : List ProblemRow) (free : List Bool) (now : Hour) (count : ℕ) (found : List MadeHour)
+    : Type 0 where
+  pub few : length found ≤ count
+  pub are : (count ≡ 0) ⊎ ((taking : List Bool) × AreTaking rows free now.heats.items taking
+      × AreMadeOver rows taking now count found)
 
 -- why no hour is made: the one of now can't be counted, the directories can't be planned, or out of memory
 abbrev pub IsMadeRefusal : List ProblemRow → Hour → PlanError → Type 0

@@ -1,11 +1,11 @@
 //! Hours that were not seen: the load as it is now, but half of it on the children of one directory.
-ghost use Rattle.std.specs.Prelude.{◌≡◌, ◌<◌, ◌≤◌, ◌+◌, ◌*◌, ◌/◌, ◌^◌, ◌⊎◌, ℕ, IfErr, IfOk, IsTrue, false};
+ghost use Rattle.std.specs.Prelude.{◌≡◌, ◌<◌, ◌≤◌, ◌+◌, ◌*◌, ◌/◌, ◌^◌, ◌⊎◌, ◌↔◌, ℕ, IfErr, IfOk, IsTrue, false};
 ghost use Rattle.std.specs.Prelude.{length, slice_index, if◌then◌else◌};
 ghost use Rattle.mds_types.specs.Problem.{IsForest, inodes_at};
 ghost use Rattle.ceph_plan.specs.HourPlans.{IsCountedHour};
-ghost use Rattle.ceph_plan.specs.MadeHours.{AreCounts, AreLargest, AreMadeHours, AreTotals, AreWorth, HaveNumbers};
-ghost use Rattle.ceph_plan.specs.MadeHours.{IsMadeFrom, IsMadeRefusal, free_children, half_load, heat_mark};
-ghost use Rattle.ceph_plan.specs.MadeHours.{is_free_child};
+ghost use Rattle.ceph_plan.specs.MadeHours.{AreCounts, AreLargest, AreMadeHours, AreMadeOver, AreTaking, AreTotals};
+ghost use Rattle.ceph_plan.specs.MadeHours.{AreWorth, HaveNumbers, IsMadeFrom, IsMadeRefusal, free_children, half_load};
+ghost use Rattle.ceph_plan.specs.MadeHours.{heat_mark, is_free_child};
 ghost use Rattle.ceph_plan.specs.Packing.{IsPinnedHeat};
 
 use crate::bound::sum_of;
@@ -115,6 +115,35 @@ fn may_make(hot: u64, inodes: u64, all: u64) -> bool
     ensures no { result ≡ false → (hot ≡ 0) × (inodes * 50 < all) }
 {
     hot > 0 || u128::from(inodes) * 50 >= u128::from(all)
+}
+
+/// Whether load may come to a row in a made hour: there is heat at or below it, or more than one inode, or of all rows
+/// no more inodes are known than one each.
+fn may_take(hot: u64, inodes: u64, all: u64, rows: usize) -> bool
+    ensures { IsTrue result ↔ ((0 < hot) ⊎ ((1 < inodes) ⊎ (all ≤ rows))) }
+{
+    hot > 0 || inodes > 1 || all <= rows as u64
+}
+
+/// Whether each row is to be planned and load may come to it.
+fn taking(
+    alloc: Global,
+    rows: &[ProblemRow],
+    free: &[bool],
+    now: &Hour,
+) -> Result<Vec<bool>, AllocError>
+    requires forest { IsForest rows.now }
+    requires free { length free.now ≡ length rows.now }
+    requires size { length now.now.heats.items ≡ length rows.now }
+    ensures { IfOk result (λ taking. AreTaking rows.now free.now now.now.heats.items taking.items) }
+{
+    let hot = totals(alloc, rows, &marks(alloc, &now.heats)?)?;
+    let inodes = totals(alloc, rows, &all_inodes(alloc, rows)?)?;
+    let mut found = Vec::with_capacity(alloc, rows.len())?;
+    for i in 0..rows.len() {
+        found.push(free[i] && may_take(hot[i], inodes[i], inodes[0], rows.len()))?;
+    }
+    Ok(found)
 }
 
 /// Of each row how many children it has that are to be planned, if an hour may be made for it, and 0 if not: those
@@ -267,7 +296,7 @@ fn made_from(
     requires forest { IsForest rows.now }
     requires free { length free.now ≡ length rows.now }
     requires hour { IsCountedHour now.now.heats.items now.now.pinned.items (length rows.now) }
-    ensures { IfOk result (λ found. AreMadeHours rows.now free.now now.now count found.items) }
+    ensures { IfOk result (λ found. AreMadeOver rows.now free.now now.now count found.items) }
 {
     let worth = worth(alloc, rows, free, now)?;
     let parents = largest(alloc, &worth, count)?;
@@ -282,7 +311,8 @@ fn made_from(
 }
 
 /// Hours that were not seen, each for another directory: half of all load is alike on its children that are to be
-/// planned, where `free`, and the rest is half of what it is now.
+/// planned, where `free`, and that aren't empty; the rest is half of what it is now. A child is empty that has no heat
+/// and one inode at most at and below it, if inodes are known.
 ///
 /// An hour is made for directories with at least 8 such children, and with heat at or below them, or 2 percent of all
 /// inodes: for those with the most such children, at most `count`.
@@ -304,5 +334,6 @@ pub fn made_hours(
         Ok(problem) => problem,
         Err((error, _)) => return Err(PlanError::Problem(error)),
     };
-    Ok(made_from(alloc, problem.rows(), free, now, count)?)
+    let taking = taking(alloc, problem.rows(), free, now)?;
+    Ok(made_from(alloc, problem.rows(), &taking, now, count)?)
 }
