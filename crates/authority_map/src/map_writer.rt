@@ -1,6 +1,7 @@
 //! The writer of the map.
-ghost use Rattle.std.specs.Prelude.{◌≡◌, ◌≤◌, [], All, IfOk, IfErr, vec_len};
+ghost use Rattle.std.specs.Prelude.{◌≡◌, ◌≤◌, ◌↔◌, ◌++◌, [], All, IfOk, IfErr, IsTrue, OnErr, OnOk, vec_len};
 ghost use Rattle.left_right.specs.Handles.{published, pending};
+ghost use Rattle.authority_map.specs.LogEntries.{operations_of};
 
 use crate::history::{LogPrefix, NewMap};
 use crate::map_error::MapError;
@@ -54,6 +55,40 @@ fn open_copies<J: Naming, R: Wait + Drop>(
         list.push_reserved(MapReader::over(handle, start.copied()));
     }
     Ok((copies, list))
+}
+
+// Whether readers see each operation that there is.
+fn is_all_shown<J: Naming, R: Wait + Drop>(
+    copies: &WriteHandle<Table<J>, Logged<J>, R>,
+    queue: &Queue<J>,
+) -> bool
+    ensures { IsTrue result ↔ ((pending copies.now ≡ []) × (queue.now.waiting ≡ [])) }
+{
+    queue.is_empty() && !copies.has_pending_operations()
+}
+
+// Shows readers all that is pending. Most calls of `publish` find nothing pending. So this is a function of its own:
+// the room for the results of what it calls is cleared only here.
+#[inline(never)]
+fn show_all<J: Naming, R: Wait + Drop>(
+    copies: &mut WriteHandle<Table<J>, Logged<J>, R>,
+    queue: &mut Queue<J>,
+) -> Result<(), MapError>
+    ensures ok { OnOk result (((published copies.new).prefix ≡ (published copies.old).prefix
+        ++ (operations_of (pending copies.old) ++ queue.old.waiting))
+        × (operations_of (pending copies.new) ++ queue.new.waiting ≡ [])) }
+    ensures refused { IfErr result (λ e. e ≡ MapError.Memory) }
+    ensures unchanged { OnErr result (((published copies.new).prefix ≡ (published copies.old).prefix)
+        × (operations_of (pending copies.new) ++ queue.new.waiting
+        ≡ operations_of (pending copies.old) ++ queue.old.waiting)) }
+{
+    if !hand_all(copies, queue) {
+        return Err(MapError::Memory);
+    }
+    match copies.flush() {
+        Ok(()) => Ok(()),
+        Err(_) => Err(MapError::Memory),
+    }
 }
 
 impl<J: Naming, R: Wait + Drop> WriterOf<J, Table<J>, Logged<J>, R> {
@@ -114,13 +149,10 @@ impl<J: Naming, R: Wait + Drop> Publisher<J> for WriterOf<J, Table<J>, Logged<J>
     }
 
     fn publish(&mut self) -> Result<(), MapError> {
-        if !hand_all(&mut self.copies, &mut self.queue) {
-            return Err(MapError::Memory);
+        if is_all_shown(&self.copies, &self.queue) {
+            return Ok(());
         }
-        match self.copies.flush() {
-            Ok(()) => Ok(()),
-            Err(_) => Err(MapError::Memory),
-        }
+        show_all(&mut self.copies, &mut self.queue)
     }
 
     fn tell(&self) -> Published<J> {

@@ -1,7 +1,7 @@
 use Rattle.std.proofs.Common.{◌≡◌, [], refl, rules}
 use Rattle.left_right.specs.Handles.{published, pending}
 use Rattle.authority_map.proofs.WriterLemmas.{all_shown}
-use Rattle.authority_map.proofs.map_writer.WriterOfTableLoggedPublisher.publish.Goals as goal
+use Rattle.authority_map.proofs.map_writer.show_all.Goals as goal
 
 pub returns-in-Ok-clause-ok : goal.returns-in-Ok-clause-ok
 returns-in-Ok-clause-ok g c =
