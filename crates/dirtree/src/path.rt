@@ -1,17 +1,18 @@
 //! Paths of directories, and where they lead.
 ghost use Rattle.std.specs.Prelude.{◌≡◌, ◌≢◌, ◌↔◌, ◌<◌, ◌==◌, ◌++◌, ◌∷◌, [], ℕ, All, List, Ok, Err, IfOk, IsOkUnless};
-ghost use Rattle.std.specs.Prelude.{IsTrue, MatchOption, OnErr, OnOk, drop, map, reverse, string_bytes, true, false};
+ghost use Rattle.std.specs.Prelude.{IsTrue, MatchOption, IfSome, OnErr, OnOk, drop, map, reverse, string_bytes, true, false};
 ghost use Rattle.std.specs.List.{flat_map, slice_split};
 ghost use Rattle.dirtree.specs.Path.{find, names_up, path_of, walk};
-ghost use Rattle.dirtree.specs.Tree.{is_there};
+ghost use Rattle.dirtree.specs.Tree.{is_there, name_of};
 
 use crate::name::is_name;
 use crate::tree::Tree;
 use crate::tree_error::TreeError;
+use arrayvec::ArrayVec;
 use mds_types::Dir;
 use std::alloc::{AllocError, Global};
 
-/// For how many names a path takes room at first.
+/// How many names a path has mostly at most. For a longer one memory is asked.
 const USUAL_DEPTH: usize = 16;
 
 impl Tree {
@@ -126,7 +127,7 @@ impl Tree {
     }
 
     /// Writes the path of a directory to a text, in place of what it held. A text that is used again grows no more
-    /// once it had room for the longest path; the list of the names on the way takes memory in each call.
+    /// once it had room for the longest path; a list of the names on the way takes memory only where they are many.
     pub fn write_path(&self, alloc: Global, dir: Dir, path: &mut String) -> Result<(), TreeError>
         ensures path { OnOk result (string_bytes path.new ≡ path_of self.now.entries dir) }
         ensures gone { is_there self.now.entries dir ≡ false → result ≡ Err TreeError.NoDir }
@@ -152,6 +153,44 @@ impl Tree {
         requires empty { string_bytes path.old ≡ [] }
         ensures { OnOk result (string_bytes path.new ≡ path_of self.now.entries dir) }
     {
+        match self.short_way_up(dir) {
+            Some(way) => self.add_way(dir, way, path),
+            None => self.add_long_way(alloc, dir, path),
+        }
+    }
+
+    // Writes the names of the directories on the way down to an empty text.
+    fn add_way(
+        &self,
+        dir: Dir,
+        way: ArrayVec<u32, USUAL_DEPTH>,
+        path: &mut String,
+    ) -> Result<(), AllocError>
+        requires names { map (name_of self.now.entries) way.items ≡ names_up self.now.entries dir }
+        requires there { All (λ at. is_there self.now.entries at ≡ true) way.items }
+        requires empty { string_bytes path.old ≡ [] }
+        ensures { OnOk result (string_bytes path.new ≡ path_of self.now.entries dir) }
+    {
+        let mut way = way;
+        if way.is_empty() {
+            path.push_str("/")?;
+        }
+        while let Some(at) = way.pop() {
+            let Some(node) = self.node(Dir::new(at)) else {
+                unreachable!()
+            };
+            path.push('/')?;
+            path.push_str(node.name.as_str())?;
+        }
+        Ok(())
+    }
+
+    // Writes the path of a directory to an empty text, however many names it has.
+    fn add_long_way(&self, alloc: Global, dir: Dir, path: &mut String) -> Result<(), AllocError>
+        requires there { is_there self.now.entries dir ≡ true }
+        requires empty { string_bytes path.old ≡ [] }
+        ensures { OnOk result (string_bytes path.new ≡ path_of self.now.entries dir) }
+    {
         let mut names = self.names_up(alloc, dir)?;
         if names.is_empty() {
             path.push_str("/")?;
@@ -161,6 +200,27 @@ impl Tree {
             path.push_str(name)?;
         }
         Ok(())
+    }
+
+    // The directories from one up to the root, which is left out, if they are few.
+    fn short_way_up(&self, dir: Dir) -> Option<ArrayVec<u32, USUAL_DEPTH>>
+        requires { is_there self.now.entries dir ≡ true }
+        ensures names { IfSome result (λ way. map (name_of self.now.entries) way.items ≡ names_up self.now.entries dir) }
+        ensures there { IfSome result (λ way. All (λ at. is_there self.now.entries at ≡ true) way.items) }
+    {
+        let mut way = ArrayVec::new();
+        let mut at = dir;
+        while at != Dir::ROOT {
+            if way.is_full() {
+                return None;
+            }
+            let Some(node) = self.node(at) else {
+                unreachable!()
+            };
+            way.push(at.number());
+            at = Dir::new(node.parent);
+        }
+        Some(way)
     }
 
     /// The names from a directory up to the root, whose own name is left out.

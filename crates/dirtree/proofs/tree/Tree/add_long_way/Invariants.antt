@@ -2,7 +2,7 @@ use Rattle.std.proofs.Common.{◌≡◌, ◌++◌, ◌∷◌, map, length, strin
 use Rattle.std.specs.Prelude.{reverse}
 use Rattle.std.specs.List.{flat_map}
 use Rattle.dirtree.specs.Path.{path_of}
-use Rattle.dirtree.proofs.tree.Tree.add_names.Given as goal
+use Rattle.dirtree.proofs.tree.Tree.add_long_way.Given as goal
 
 -- the names that are left come after what is written
 abbrev pub invariant-loop-name : goal.invariant-loop-name
