@@ -6,6 +6,7 @@ mod cost;
 pub mod done;
 pub mod hints;
 pub mod laws;
+mod line_end;
 mod looks;
 mod moved;
 mod page;

@@ -1,11 +1,11 @@
 //! The lines of `stat`. Each is made in a text, in place of what it held.
-ghost use Rattle.std.specs.Prelude.{◌≡◌, ◌<◌, OnOk, length, string_bytes, true};
+ghost use Rattle.std.specs.Prelude.{◌≡◌, ◌<◌, ◌+◌, ◌++◌, ◌∷◌, [], OnOk, codes, decimal, length, string_bytes, true};
 ghost use Rattle.dirtree.specs.Tree.{is_there};
 ghost use Rattle.script_board.specs.Stat.{directories};
 ghost use Rattle.script_session.specs.Stat.{cluster_line, dir_line, rank_text};
 
+use crate::line_end::LineEnd;
 use authority_map::Publisher;
-use itoa::Buffer;
 use mds_types::{Dir, Kind, Rank};
 use proof_names::Naming;
 use script_board::ScriptBoard;
@@ -28,6 +28,16 @@ pub(crate) fn cluster_line<J: Naming, M: Publisher<J>>(
     )
 }
 
+// What a line says of a directory after its path.
+#[derive(Drop)]
+struct DirFacts {
+    pin: Option<Rank>,
+    rank: Option<Rank>,
+    heat: u64,
+    reads: u64,
+    writes: u64,
+}
+
 pub(crate) fn dir_line<J: Naming, M: Publisher<J>>(
     alloc: Global,
     board: &mut ScriptBoard<J, M>,
@@ -41,27 +51,52 @@ pub(crate) fn dir_line<J: Naming, M: Publisher<J>>(
     ensures same { board.new ≡ board.old }
 {
     board.write_path(alloc, dir, field)?;
-    let (number, path) = (dir.number(), field.as_str());
-    let (mut pin_buffer, mut rank_buffer) = (Buffer::new(), Buffer::new());
-    let pin = rank_text(&mut pin_buffer, board.pin_of(dir));
-    let rank = rank_text(&mut rank_buffer, board.rank_of(dir));
-    let heat = board.heat_of(dir);
-    let reads = board.hits_of(dir, Kind::Read);
-    let writes = board.hits_of(dir, Kind::Write);
-    let hits = reads as u128 + writes as u128;
-    line.clear();
-    write!(
-        line,
-        "dir {number} {path} pin {pin} rank {rank} heat {heat} hits {hits} writes {writes}\n"
-    )
+    let facts = DirFacts {
+        pin: board.pin_of(dir),
+        rank: board.rank_of(dir),
+        heat: board.heat_of(dir),
+        reads: board.hits_of(dir, Kind::Read),
+        writes: board.hits_of(dir, Kind::Write),
+    };
+    write_dir(dir, field.as_str(), &facts, line)
 }
 
-// A rank, or `-` where there is none.
-fn rank_text(buffer: &mut Buffer, rank: Option<Rank>) -> &str
-    ensures { result.now ≡ rank_text rank }
+fn write_dir(dir: Dir, path: &str, facts: &DirFacts, line: &mut String) -> Result<(), AllocError>
+    ensures { OnOk result (string_bytes line.new ≡ codes "dir " ++ decimal dir ++ codes " " ++ path.now
+        ++ codes " pin " ++ rank_text facts.now.pin ++ codes " rank " ++ rank_text facts.now.rank
+        ++ codes " heat " ++ decimal facts.now.heat ++ codes " hits " ++ decimal (facts.now.reads + facts.now.writes)
+        ++ codes " writes " ++ decimal facts.now.writes ++ 10 ∷ []) }
 {
-    match rank {
-        Some(rank) => buffer.format(rank.number()),
-        None => "-",
-    }
+    let mut front = LineEnd::new();
+    front.put(" ");
+    front.put_number(dir.number() as u64);
+    front.put("dir ");
+    let mut end = LineEnd::new();
+    put_facts(facts, &mut end);
+    line.clear();
+    line.push_str(front.text())?;
+    line.push_str(path)?;
+    line.push_str(end.text())?;
+    Ok(())
+}
+
+// Writes what comes after the path.
+fn put_facts(facts: &DirFacts, end: &mut LineEnd)
+    requires { end.old ≡ [] }
+    ensures { end.new ≡ codes " pin " ++ (rank_text facts.now.pin ++ (codes " rank " ++ (rank_text facts.now.rank
+        ++ (codes " heat " ++ (decimal facts.now.heat ++ (codes " hits "
+        ++ (decimal (facts.now.reads + facts.now.writes) ++ (codes " writes "
+        ++ (decimal facts.now.writes ++ 10 ∷ []))))))))) }
+{
+    end.put("\n");
+    end.put_number(facts.writes);
+    end.put(" writes ");
+    end.put_sum(facts.reads, facts.writes);
+    end.put(" hits ");
+    end.put_number(facts.heat);
+    end.put(" heat ");
+    end.put_rank(facts.rank);
+    end.put(" rank ");
+    end.put_rank(facts.pin);
+    end.put(" pin ");
 }
