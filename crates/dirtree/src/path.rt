@@ -1,6 +1,7 @@
 //! Paths of directories, and where they lead.
 ghost use Rattle.std.specs.Prelude.{◌≡◌, ◌≢◌, ◌↔◌, ◌<◌, ◌==◌, ◌++◌, ◌∷◌, [], ℕ, All, List, Ok, Err, IfOk, IsOkUnless};
-ghost use Rattle.std.specs.Prelude.{IsTrue, MatchOption, IfSome, OnErr, OnOk, drop, map, reverse, string_bytes, true, false};
+ghost use Rattle.std.specs.Prelude.{IsTrue, MatchOption, IfSome, OnErr, OnOk, drop, map, reverse, string_bytes};
+ghost use Rattle.std.specs.Prelude.{true, false};
 ghost use Rattle.std.specs.List.{flat_map, slice_split};
 ghost use Rattle.dirtree.specs.Path.{find, names_up, path_of, walk};
 ghost use Rattle.dirtree.specs.Tree.{is_there, name_of};
@@ -205,7 +206,8 @@ impl Tree {
     // The directories from one up to the root, which is left out, if they are few.
     fn short_way_up(&self, dir: Dir) -> Option<ArrayVec<u32, USUAL_DEPTH>>
         requires { is_there self.now.entries dir ≡ true }
-        ensures names { IfSome result (λ way. map (name_of self.now.entries) way.items ≡ names_up self.now.entries dir) }
+        ensures names { IfSome result (λ way. map (name_of self.now.entries) way.items
+            ≡ names_up self.now.entries dir) }
         ensures there { IfSome result (λ way. All (λ at. is_there self.now.entries at ≡ true) way.items) }
     {
         let mut way = ArrayVec::new();
