@@ -63,13 +63,12 @@ lost_front : (known was : Option (List ℕ)) (board : Option BoardData) → IfSo
 lost_front None was board empty has = tt
 lost_front (Some bytes) was board empty has = absurd (subst (λ (x : Option (List ℕ)). Appends x None has.0) empty has.3)
 
-module _ {R E : Type 0} (remaining : R → Option (List ℕ)) (said : E → Option (List ℕ)) (old new : Reading R)
-    (before after : Option (List ℕ)) (errors_before errors_after : E) (limit : ℕ) (strict : Bool) where
+module _ {R : Type 0} (remaining : R → Option (List ℕ)) (old new : Reading R) (before after : Option (List ℕ)) (limit : ℕ) (strict : Bool) where
   abbrev Run : (Whole Front : Option BoardData → Type 0) → Bool → ℕ → Type 0
-  Run = IsRun remaining said old new before after errors_before errors_after limit strict
+  Run = IsRun remaining old new before after limit strict
 
   abbrev Filed : (List ℕ → Option (List ℕ)) → Option Text → ℕ → Type 0
-  Filed = IsFiledRun remaining said old new before after errors_before errors_after limit strict
+  Filed = IsFiledRun remaining old new before after limit strict
 
   pub broken_off : (Whole Front : Option BoardData → Type 0) (named : Bool) (f : RunError) (r : Result Bool RunError) (status : ℕ)
       → r ≡ Err f → status ≡ run_status f
@@ -86,7 +85,7 @@ module _ {R E : Type 0} (remaining : R → Option (List ℕ)) (said : E → Opti
   pub carried_out : (proofs_before proofs_after : Option (List ℕ)) (ended : Ended) (accepted : Bool) (Has : Option BoardData → Type 0)
       → IsRunOf remaining limit strict old new before after proofs_before proofs_after ended → ended.answered ≡ Ok accepted
       → ((board : Option BoardData) → IsKeptAt board → IsProved ended.proved proofs_before proofs_after board → Has board)
-      → IsCarriedOut remaining said old new before after errors_before errors_after limit strict Has accepted
+      → IsCarriedOut remaining old new before after limit strict Has accepted
   carried_out proofs_before proofs_after ended accepted Has ran is has =
       let last = ran.proofs in
       let given = ok_of _ ended.answered accepted is ran.given in
@@ -148,15 +147,15 @@ module _ {R E : Type 0} (remaining : R → Option (List ℕ)) (said : E → Opti
       (subst (λ (o : Option F). Run (HasAllIn (contents made) (option_and_then contents o)) (HasFrontIn (contents made) (option_and_then contents o)) true status) none ran)
 
   -- what the words ask for was carried out
-  pub exits : (holds : List ℕ → Option (List ℕ)) (words : List Text) (file : Option Text) (status : ℕ)
+  pub exits : {E : Type 0} (said : E → Option (List ℕ)) (errors_before errors_after : E) (holds : List ℕ → Option (List ℕ)) (words : List Text) (file : Option Text) (status : ℕ)
       → fault_of mdbal words ≡ [] → limit ≡ limit_of words → strict ≡ is_strict words → file ≡ proofs_of words
       → Filed holds file status
       → IsExit remaining said old new before after errors_before errors_after holds words status
-  exits holds words file status accepted is_limit is_strictness is_file ran =
+  exits {E} said errors_before errors_after holds words file status accepted is_limit is_strictness is_file ran =
       inl (
         accepted,
-        subst (λ (n : ℕ). IsFiledRun remaining said old new before after errors_before errors_after n (is_strict words) holds (proofs_of words) status) is_limit
-            (subst (λ (b : Bool). IsFiledRun remaining said old new before after errors_before errors_after limit b holds (proofs_of words) status) is_strictness
+        subst (λ (n : ℕ). IsFiledRun remaining old new before after n (is_strict words) holds (proofs_of words) status) is_limit
+            (subst (λ (b : Bool). IsFiledRun remaining old new before after limit b holds (proofs_of words) status) is_strictness
             (subst (λ (f : Option Text). Filed holds f status) is_file ran)),
       )
 

@@ -39,7 +39,7 @@ module _ {R E : Type 0} (remaining : R → Option (List ℕ)) (said : E → Opti
     (answers_before answers_after : Option (List ℕ)) (said_before said_after : E) where
   has_all : (limit : ℕ) (strict accepted : Bool) (holds : List ℕ → Option (List ℕ)) (words : List Text) (name file : List ℕ)
       → proofs_of words ≡ Some name → holds name ≡ Some file
-      → IsCarriedOut remaining said read_before read_after answers_before answers_after said_before said_after limit strict (InFile HasAllIn holds (proofs_of words)) accepted
+      → IsCarriedOut remaining read_before read_after answers_before answers_after limit strict (InFile HasAllIn holds (proofs_of words)) accepted
       → (board : Option BoardData) × HasAllIn (Some []) (Some file) board
   has_all limit strict accepted holds words name file is_name is_file ran =
       let last = ran.0 in (
@@ -50,7 +50,7 @@ module _ {R E : Type 0} (remaining : R → Option (List ℕ)) (said : E → Opti
 
   of_run : (limit : ℕ) (strict : Bool) (holds : List ℕ → Option (List ℕ)) (words : List Text) (name file : List ℕ) (status : ℕ)
       → proofs_of words ≡ Some name → holds name ≡ Some file → status ≤ 1
-      → IsFiledRun remaining said read_before read_after answers_before answers_after said_before said_after limit strict holds (proofs_of words) status
+      → IsFiledRun remaining read_before read_after answers_before answers_after limit strict holds (proofs_of words) status
       → (board : Option BoardData) × HasAllIn (Some []) (Some file) board
   of_run limit strict holds words name file status is_name is_file few (inl (is, ran)) = has_all limit strict true holds words name file is_name is_file ran
   of_run limit strict holds words name file status is_name is_file few (inr (inl (is, ran))) = has_all limit strict false holds words name file is_name is_file ran

@@ -51,8 +51,7 @@ abbrev pub InFile : (Option (List ℕ) → Option (List ℕ) → Option BoardDat
     → Option Text → Option BoardData → Type 0
 InFile Has holds file board = IfSome file (λ name. IfSome (holds name) (λ bytes. Has (Some []) (Some bytes) board))
 
-module _ {R E : Type 0} (remaining : R → Option (List ℕ)) (said : E → Option (List ℕ)) (old new : Reading R)
-    (before after : Option (List ℕ)) (errors_before errors_after : E) where
+module _ {R : Type 0} (remaining : R → Option (List ℕ)) (old new : Reading R) (before after : Option (List ℕ)) where
   -- nothing was read or written
   abbrev pub IsUntouched : Type 0
   IsUntouched = (new ≡ old) × (after ≡ before)
@@ -93,14 +92,17 @@ module _ {R E : Type 0} (remaining : R → Option (List ℕ)) (said : E → Opti
     abbrev pub IsFiledRun : (List ℕ → Option (List ℕ)) → Option Text → ℕ → Type 0
     IsFiledRun holds file = IsRun (InFile HasAllIn holds file) (InFile HasFrontIn holds file) (is_some file)
 
+module _ {R E : Type 0} (remaining : R → Option (List ℕ)) (said : E → Option (List ℕ)) (old new : Reading R)
+    (before after : Option (List ℕ)) (errors_before errors_after : E) where
   -- The words of the command line are accepted, and the script is carried out with the limit, the flag and the file
   -- that they name; or nothing is read, as they ask for the help or the version, are refused, or there is no memory to
   -- read them. The status is 3 where the help or the version could not be written.
   abbrev pub IsExit : (List ℕ → Option (List ℕ)) → List Text → ℕ → Type 0
   IsExit holds words status =
-      ((fault_of mdbal words ≡ []) × IsFiledRun (limit_of words) (is_strict words) holds (proofs_of words) status)
+      ((fault_of mdbal words ≡ [])
+      × IsFiledRun remaining old new before after (limit_of words) (is_strict words) holds (proofs_of words) status)
       ⊎ (((status ≡ 0) ⊎ (status ≡ 3))
       × (IsAmong DisplayHelp (fault_of mdbal words) ⊎ IsAmong DisplayVersion (fault_of mdbal words))
       × (new ≡ old))
-      ⊎ ((status ≡ 2) × IsUntouched × ((fault_of mdbal words ≢ [])
+      ⊎ ((status ≡ 2) × IsUntouched remaining old new before after × ((fault_of mdbal words ≢ [])
       ⊎ IsMemorySaid said errors_before errors_after))

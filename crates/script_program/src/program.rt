@@ -1,12 +1,10 @@
 //! The program over any devices: from the words of its command line to its exit status.
-ghost use Rattle.std.specs.Prelude.{◌≡◌, ◌≤◌, IsErrOf, None, Ok, map, option_map, is_some};
+ghost use Rattle.std.specs.Prelude.{◌≡◌, ◌≤◌, map, option_map, is_some};
 ghost use Rattle.command_line.specs.Outcome.{EndsWith};
 ghost use Rattle.command_line.specs.declared.options_error.OptionsError.TheVariants as cause;
 ghost use Rattle.script_engine.specs.Known.{AppendsFront};
-ghost use Rattle.script_engine.specs.declared.driver.RunError.TheVariants as failure;
 ghost use Rattle.script_program.specs.Exit.{HasAllIn, HasFrontIn, IsExit, IsFiledRun, IsMemorySaid, IsRun};
 ghost use Rattle.script_program.specs.Exit.{message, run_status};
-ghost use Rattle.script_session.specs.Ending.{IsRunOf};
 ghost use Rattle.std.specs.Option.{option_and_then};
 
 use crate::hints::LineHints;
@@ -15,7 +13,7 @@ use command_line::{OptionsError, Settings, options};
 use dirtree::NameKey;
 use script_engine::{Input, RunError, write_whole};
 use script_session::laws::certificates_are_best;
-use script_session::{Ended, RunOptions, run};
+use script_session::{RunOptions, run};
 use std::alloc::Global;
 use std::convert::AsStr;
 use std::io;
@@ -84,9 +82,9 @@ fn carry_out<T: Threads + Wait + RandomSource + Sync, F: ProofFiles, R: Read, W:
     requires some { 1 ≤ settings.now.limit }
     requires few { settings.now.limit ≤ 65536 }
     requires unread { input.old.reads ≡ 0 }
-    ensures { IsFiledRun R.remaining E.contents input.old input.new (W.contents writer.old) (W.contents writer.new)
-        errors.old errors.new settings.now.limit settings.now.strict (F.holds files.new)
-        (option_map (λ file. file.now) settings.now.proofs) result }
+    ensures { IsFiledRun R.remaining input.old input.new (W.contents writer.old) (W.contents writer.new)
+        settings.now.limit settings.now.strict (F.holds files.new) (option_map (λ file. file.now) settings.now.proofs)
+        result }
 {
     let Some(name) = settings.proofs else {
         let mut none: Option<F::File> = None;
@@ -114,6 +112,7 @@ fn name_key<T: RandomSource>(rt: &T) -> io::Result<NameKey> {
 }
 
 // Carries out a script, and writes the certificates of the plans that it adopts to `proofs`, if there is such a file.
+// Unless it is to be quiet, standard error says why a line isn't accepted.
 fn prove<T: Threads + Wait + RandomSource + Sync, R: Read, W: Write, P: Write, E: Write>(
     rt: &T,
     alloc: Global,
@@ -126,8 +125,8 @@ fn prove<T: Threads + Wait + RandomSource + Sync, R: Read, W: Write, P: Write, E
     requires some { 1 ≤ settings.now.limit }
     requires few { settings.now.limit ≤ 65536 }
     requires unread { input.old.reads ≡ 0 }
-    ensures { IsRun R.remaining E.contents input.old input.new (W.contents writer.old) (W.contents writer.new)
-        errors.old errors.new settings.now.limit settings.now.strict
+    ensures { IsRun R.remaining input.old input.new (W.contents writer.old) (W.contents writer.new)
+        settings.now.limit settings.now.strict
         (HasAllIn (option_and_then P.contents proofs.old) (option_and_then P.contents proofs.new))
         (HasFrontIn (option_and_then P.contents proofs.old) (option_and_then P.contents proofs.new))
         (is_some proofs.old) result }
@@ -135,39 +134,6 @@ fn prove<T: Threads + Wait + RandomSource + Sync, R: Read, W: Write, P: Write, E
     let Ok(key) = name_key(rt) else {
         return fail(RunError::Read, errors);
     };
-    let ended = answer(rt, alloc, settings, key, input, writer, proofs, errors);
-    let accepted = match ended.answered {
-        Ok(accepted) => accepted,
-        Err(failure) => return fail(failure, errors),
-    };
-    if let Err(why) = ended.proved {
-        let _ = writeln!(errors, "mdbal: --proofs: {why}");
-        return 3;
-    }
-    certificates_are_best();
-    if accepted { 0 } else { 1 }
-}
-
-// Answers the lines of a script, and says on standard error why one isn't accepted, unless it is to be quiet.
-fn answer<T: Threads + Wait + Sync, R: Read, W: Write, P: Write, E: Write>(
-    rt: &T,
-    alloc: Global,
-    settings: &Settings<'_>,
-    key: NameKey,
-    input: &mut Input<R>,
-    writer: &mut W,
-    proofs: &mut Option<P>,
-    errors: &mut E,
-) -> Ended
-    requires some { 1 ≤ settings.now.limit }
-    requires few { settings.now.limit ≤ 65536 }
-    requires unread { input.old.reads ≡ 0 }
-    ensures run { IsRunOf R.remaining settings.now.limit settings.now.strict input.old input.new
-        (W.contents writer.old) (W.contents writer.new)
-        (option_and_then P.contents proofs.old) (option_and_then P.contents proofs.new) result }
-    ensures memory { IsErrOf result.answered failure.Memory → (input.new ≡ input.old) × (writer.new ≡ writer.old) }
-    ensures unasked { proofs.old ≡ None → result.proved ≡ Ok tt }
-{
     let options = RunOptions {
         key,
         limit: settings.limit,
@@ -179,10 +145,19 @@ fn answer<T: Threads + Wait + Sync, R: Read, W: Write, P: Write, E: Write>(
     };
     let ended = run(rt, alloc, input, writer, proofs, &mut hints, options);
     let LineHints {
-        errors: _errors,
+        errors,
         quiet: _quiet,
     } = hints;
-    ended
+    let accepted = match ended.answered {
+        Ok(accepted) => accepted,
+        Err(failure) => return fail(failure, errors),
+    };
+    if let Err(why) = ended.proved {
+        let _ = writeln!(errors, "mdbal: --proofs: {why}");
+        return 3;
+    }
+    certificates_are_best();
+    if accepted { 0 } else { 1 }
 }
 
 // Says why a run ended before its script did, and gives the status for that.

@@ -4,7 +4,7 @@ use Rattle.script_program.proofs.program.start.Goals as goal
 
 pub returns-in-Ok : goal.returns-in-Ok
 returns-in-Ok g c =
-    exits g.R.Read.remaining g.E.Write.contents _ _ _ _ _ _ c.in-Ok.settings.limit c.in-Ok.settings.strict _
+    exits g.R.Read.remaining _ _ _ _ c.in-Ok.settings.limit c.in-Ok.settings.strict g.E.Write.contents _ _ _
     (map g.S.AsStr.text c.args.words.now) _ _ c.in-Ok.ensures.accepted c.in-Ok.ensures.limit c.in-Ok.ensures.strict c.in-Ok.ensures.proofs c.carry_out.ensures
 
 pub returns-in-Err : goal.returns-in-Err
