@@ -22,10 +22,10 @@ pub handed : (es new : List LogEntry) (e : LogEntry) (left old : List Operation)
 handed es new e left old is order =
     ap (λ (l : List LogEntry). operations_of l ++ left) is ∙ ap (λ (l : List Operation). l ++ left) (operations_of-snoc es e) ∙ append_assoc (operations_of es) (e.operation ∷ []) left ∙ ap (λ (l : List Operation). operations_of es ++ l) order
 
-alone : (x : List Operation) → x ≡ [] → All (λ (reader : List Operation). reader ≡ []) (x ∷ [])
-alone x none zero d near = none
-alone x none (suc k) d near = absurd (omega arith)
+alone : (told x : List Operation) → x ≡ told → All (λ (reader : List Operation). reader ≡ told) (x ∷ [])
+alone told x same zero d near = same
+alone told x same (suc k) d near = absurd (omega arith)
 
--- one reader more that knows of nothing
-pub all_new : (readers more : List (List Operation)) (x : List Operation) → more ≡ readers ++ x ∷ [] → All (λ reader. reader ≡ []) readers → x ≡ [] → All (λ reader. reader ≡ []) more
-all_new readers more x is all none = subst (All (λ reader. reader ≡ [])) (sym is) (All-append (λ reader. reader ≡ []) readers (x ∷ []) all (alone x none))
+-- one reader more that holds the same
+pub all_new : (told : List Operation) (readers more : List (List Operation)) (x : List Operation) → more ≡ readers ++ x ∷ [] → All (λ reader. reader ≡ told) readers → x ≡ told → All (λ reader. reader ≡ told) more
+all_new told readers more x is all same = subst (All (λ reader. reader ≡ told)) (sym is) (All-append (λ reader. reader ≡ told) readers (x ∷ []) all (alone told x same))

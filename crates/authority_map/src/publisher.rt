@@ -1,11 +1,12 @@
 //! What the writer of a board's map does.
-ghost use Rattle.std.specs.Prelude.{◌≡◌, ◌-◌, ◌<◌, ◌≤◌, ◌∷◌, [], ◌++◌, ℕ, List, All, IfErr, OnOk, OnErr};
+ghost use Rattle.std.specs.Prelude.{◌≡◌, ◌-◌, ◌<◌, ◌≤◌, ◌∷◌, [], ◌++◌, ℕ, List, All, IfErr, IfOk, OnOk, OnErr, vec_len};
 ghost use Rattle.authority_map.specs.Operations.{Operation, SetTo, Clear, rank_after};
 
 use crate::map_error::MapError;
-use crate::map_reader::Published;
+use crate::map_reader::{MapReader, Published};
 use mds_types::{Dir, Rank};
 use proof_names::Naming;
+use std::alloc::Global;
 
 /// Publishes the map of the board that `J` names.
 ///
@@ -58,6 +59,16 @@ pub trait Publisher<J: Naming> {
         ensures refused { IfErr result (λ e. e ≡ MapError.Memory) }
         ensures unchanged { OnErr result ((published self.new ≡ published self.old)
             × (pending self.new ≡ pending self.old)) };
+
+    /// Opens the map anew, for this many readers, which hold all that is published. Readers of before find it closed.
+    /// It waits for those that are still in it.
+    fn reopen(&mut self, alloc: Global, readers: u8) -> Result<Vec<MapReader<J>>, MapError>
+        requires readers { (1 ≤ readers) × (readers ≤ 64) }
+        ensures count { IfOk result (λ made. vec_len made ≡ readers) }
+        ensures readers { IfOk result (λ made. All (λ reader. reader ≡ published self.old) made.items) }
+        ensures refused { IfErr result (λ e. e ≡ MapError.Memory) }
+        ensures same { (published self.new ≡ published self.old) × (pending self.new ≡ pending self.old)
+            × (room self.new ≡ room self.old) };
 
     /// A token of what is published.
     fn tell(&self) -> Published<J>

@@ -30,6 +30,18 @@ impl Runs {
         let cells = Vec::with_capacity(alloc, limit as usize)?;
         Ok(Runs { starts, cells })
     }
+
+    /// The same runs in memory of their own, with room for a run for each directory.
+    pub(crate) fn copied(&self, alloc: Global, limit: u32) -> Result<Runs, AllocError>
+        ensures room { IfOk result (λ runs. HasRunRoom limit runs) }
+        ensures starts { IfOk result (λ runs. runs.starts.items ≡ self.now.starts.items) }
+        ensures cells { IfOk result (λ runs. runs.cells.items ≡ self.now.cells.items) }
+    {
+        let mut runs = Runs::new(alloc, limit)?;
+        runs.starts.extend_from_slice(&self.starts)?;
+        runs.cells.extend_from_slice(&self.cells)?;
+        Ok(runs)
+    }
 }
 
 /// How many directories a block has.

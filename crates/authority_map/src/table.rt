@@ -56,6 +56,22 @@ impl<J: Naming> Table<J> {
         })
     }
 
+    /// The same map in memory of its own.
+    pub fn copied(&self, alloc: Global) -> Result<Table<J>, AllocError>
+        ensures { IfOk result (λ t. t.prefix ≡ self.now.prefix) }
+    {
+        let runs = self.runs.copied(alloc, self.limit)?;
+        let spare = Runs::new(alloc, self.limit)?;
+        let index = self.index.clone()?;
+        Ok(Table {
+            limit: self.limit,
+            runs,
+            spare,
+            index,
+            prefix: self.prefix.copied(),
+        })
+    }
+
     pub fn rank_of(&self, dir: Dir) -> Option<Rank>
         ensures { result ≡ rank_after self.now.prefix dir }
     {

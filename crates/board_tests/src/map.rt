@@ -3,4 +3,5 @@
 mod maps;
 mod opened;
 mod published;
+mod reopened;
 mod watched;

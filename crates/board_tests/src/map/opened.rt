@@ -4,6 +4,7 @@ ghost use Rattle.std.specs.Prelude.{◌≡◌};
 
 use crate::map::maps::look;
 use crate::map::published::{follow, give_many};
+use crate::map::reopened::reopen;
 use crate::map::watched::never_go_back;
 use crate::same::Sure;
 use authority_map::{Found, MapError, MapReader, MapWriter, NewMap, Publisher};
@@ -20,6 +21,7 @@ use std::thread::Threads;
 pub(crate) enum Trial {
     Follows,
     Refusals,
+    Reopens,
     Watches,
 }
 
@@ -40,6 +42,7 @@ fn is_well<J: Naming + Send + Sync, M: Publisher<J> + Send, R: Threads + Sync>(
         Trial::Watches => Ok(never_go_back(rt, alloc, writer, first, second, third)),
         Trial::Refusals => give_many::<J, M>(alloc, writer, first),
         Trial::Follows => follow::<J, M>(alloc, writer, first),
+        Trial::Reopens => reopen::<J, M>(alloc, writer, first),
     }
 }
 
