@@ -7,13 +7,15 @@ use Rattle.std.proofs.Math.Seq.{get_or-append_seam}
 use Rattle.mds_types.specs.declared.problem.ProblemRow.{ProblemRow}
 use Rattle.mds_types.specs.Connected.{IsChain, IsParentOrChild}
 use Rattle.mds_types.specs.Division.{InPart, IsDivision, IsEdge, IsLowerBound, greatest_heat, part_heat}
+use Rattle.mds_types.specs.Placing.{IsPlacing, moved, moved_at}
 use Rattle.mds_types.specs.Problem.{heat_at, no_row, parent_at}
+use Rattle.mds_types.specs.RankSet.{has_rank}
 use Rattle.mds_types.specs.Sums.{max_below, sum_below}
 use Rattle.mds_types.proofs.SumsLemmas.{sum_below-same}
-use Rattle.dirtree.specs.Tree.{Entry, IsTree, is_there, parent_of}
+use Rattle.dirtree.specs.Tree.{Entry, IsTree, inodes_of, is_there, parent_of}
 use Rattle.dirtree.proofs.Changes.{inside}
 use Rattle.dir_pins.specs.Pins.{below, is_unpinned, nearest_pin, unpinned}
-use Rattle.tree_parts.specs.DirDivision.{InDirPart, IsDirDivision, dir_part_heat, greatest_dir_heat, row_label}
+use Rattle.tree_parts.specs.DirDivision.{InDirPart, IsDirDivision, IsDirPlacing, dir_moved, dir_part_heat, greatest_dir_heat, row_label}
 use Rattle.tree_parts.specs.ProblemRows.{problem_rows, row_of}
 use Rattle.tree_parts.proofs.Places.{at_place, kept_at, kept_next, place_less}
 use Rattle.tree_parts.proofs.RowsSoFar.{parent_is, parents_row}
@@ -90,6 +92,36 @@ module _ (es : List (Option Entry)) (own : List (Option ℕ)) (heats now : List 
 
   rises_to : (i j : ℕ) → i < length (unpinned es own) → parent_at (problem_rows es own heats now) i ≡ j → parent_of es (slice_index (unpinned es own) i) ≡ slice_index (unpinned es own) j
   rises_to i j l up = sym (parents_row es own heats now tree i l) ∙ ap (slice_index (unpinned es own)) up
+
+  -- placings of parts of directories and of parts of rows
+  module _ (ranks : ℕ) (label rank : ℕ → ℕ) where
+    pub placed_rows : IsDirPlacing es own ranks label rank → IsPlacing (problem_rows es own heats now) ranks (row_label es own label) rank
+    placed_rows is = record {
+      usable = λ i l. is.usable (slice_index (unpinned es own) i) (free_row i (omega (arith, size, l)));
+      distinct = λ i j l m. is.distinct (slice_index (unpinned es own) i) (slice_index (unpinned es own) j)
+          (free_row i (omega (arith, size, l))) (free_row j (omega (arith, size, m)));
+    }
+
+    pub placed_dirs : IsPlacing (problem_rows es own heats now) ranks (row_label es own label) rank → IsDirPlacing es own ranks label rank
+    placed_dirs is = record {
+      usable = λ d free. subst (λ x. has_rank ranks (rank (label x)) ≡ true) (at_row d free)
+          (is.usable (row_of_dir es own d) (omega (arith, size, row_inside d free)));
+      distinct = λ c d free also same.
+          sym (ap label (at_row c free))
+          ∙ (is.distinct (row_of_dir es own c) (row_of_dir es own d) (omega (arith, size, row_inside c free)) (omega (arith, size, row_inside d also))
+          (ap (λ x. rank (label x)) (at_row c free) ∙ (same ∙ sym (ap (λ x. rank (label x)) (at_row d also))))
+          ∙ ap label (at_row d also));
+    }
+
+    pub moves_agree : moved (problem_rows es own heats now) (row_label es own label) rank ≡ dir_moved es own now label rank
+    moves_agree =
+        let dirs : List ℕ = unpinned es own in
+        let g : ℕ → ℕ = λ d. cond (eqb (get_or now d 0) (rank (label d))) 0 (inodes_of es d) in
+        let row_is : (i : ℕ) → i < length dirs → moved_at (problem_rows es own heats now) i (rank (row_label es own label i)) ≡ g (slice_index dirs i) = λ i l.
+        ap (λ (r : ProblemRow). cond (eqb r.now (rank (row_label es own label i))) 0 r.inodes) (get_or-map (row_of es heats now dirs) dirs i 0 no_row l) in
+        let by_rows : moved (problem_rows es own heats now) (row_label es own label) rank ≡ sum_below (length dirs) (λ i. g (slice_index dirs i)) =
+        rw size (sum_below-same (length dirs) _ _ row_is) in
+        by_rows ∙ listed_sum g (is_unpinned es own) (length es)
 
   module _ (k : ℕ) (label : ℕ → ℕ) where
     in_rows : (part d : ℕ) → InDirPart es own label part d → InPart (problem_rows es own heats now) (row_label es own label) part (row_of_dir es own d)

@@ -4,12 +4,14 @@ ghost use Rattle.mds_types.specs.declared.plan.Plan.{Plan};
 ghost use Rattle.mds_types.specs.declared.problem.ProblemRow.{ProblemRow};
 ghost use Rattle.mds_types.specs.Certificate.{IsPartition, plan_label};
 ghost use Rattle.mds_types.specs.Division.{IsDivision, IsLowerBound, part_heat};
+ghost use Rattle.mds_types.specs.Placing.{IsPlacing, moved};
 ghost use Rattle.mds_types.specs.Problem.{IsForest, IsProblem, heat_at, inodes_at, parent_at};
 ghost use Rattle.mds_types.specs.RankSet.{rank_count};
 ghost use Rattle.mds_types.specs.Sums.{sum_below};
 ghost use Rattle.dirtree.specs.Tree.{Entry, IsTree, parent_of};
 ghost use Rattle.dir_pins.specs.Pins.{unpinned};
-ghost use Rattle.tree_parts.specs.DirDivision.{IsDirDivision, dir_part_heat, greatest_dir_heat, row_label};
+ghost use Rattle.tree_parts.specs.DirDivision.{IsDirDivision, IsDirPlacing, dir_moved, dir_part_heat};
+ghost use Rattle.tree_parts.specs.DirDivision.{greatest_dir_heat, row_label};
 ghost use Rattle.tree_parts.specs.PlanParts.{IsTopOf, plan_parts};
 ghost use Rattle.tree_parts.specs.ProblemRows.{problem_rows};
 
@@ -33,6 +35,17 @@ pub fn directories_divide_as_rows()
     ensures least { (entries : List (Option Entry)) (own : List (Option ℕ)) (heats now : List ℕ) (k heat : ℕ)
         (label : ℕ → ℕ) → IsTree entries → IsLowerBound (problem_rows entries own heats now) k heat →
         IsDirDivision entries own k label → heat ≤ greatest_dir_heat entries own heats k label }
+{}
+
+/// Placings of parts of directories and of parts of the rows are the same, and move the same inodes.
+pub fn directories_move_as_rows()
+    ensures placings { (entries : List (Option Entry)) (own : List (Option ℕ)) (heats now : List ℕ) (ranks : ℕ)
+        (label rank : ℕ → ℕ) → IsTree entries → IsDirPlacing entries own ranks label rank
+        ↔ IsPlacing (problem_rows entries own heats now) ranks (row_label entries own label) rank }
+    ensures moves { (entries : List (Option Entry)) (own : List (Option ℕ)) (heats now : List ℕ)
+        (label rank : ℕ → ℕ) → IsTree entries →
+        moved (problem_rows entries own heats now) (row_label entries own label) rank
+        ≡ dir_moved entries own now label rank }
 {}
 
 /// The row of a directory's parent is the parent of its row: the problem's
