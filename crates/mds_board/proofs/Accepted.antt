@@ -1,8 +1,7 @@
 -- What it says of the parts that a change has no cause to be refused.
-use Rattle.std.proofs.Common.{◌≡◌, ◌≢◌, ℕ, zero, suc, ℤ, ◌+◌, ◌<◌, Bool, true, false, ◌==◌, if◌then◌else◌, nat_le, List, [], ◌∷◌, length, length-append, Option, Some, None, IsSome, refl, rules, ap, ◌∙◌, inl, inr, arith}
+use Rattle.std.proofs.Common.{◌≡◌, ◌≢◌, ℕ, zero, suc, ℤ, ◌+◌, ◌<◌, Bool, true, false, ◌==◌, nat_le, List, [], ◌∷◌, length, length-append, Option, Some, None, IsSome, refl, rules, ap, ◌∙◌, inl, inr, arith}
 use Rattle.std.proofs.lemmas.Bool.Decides.{nat_tests}
 use Rattle.dirtree.specs.declared.tree_error.TreeError.{TreeError}
-use Rattle.dirtree.specs.declared.tree_error.TreeError.TheVariants as tree_error
 use Rattle.dirtree.specs.Tree as tree
 use Rattle.dir_pins.specs.declared.pin_error.PinError.{PinError}
 use Rattle.dir_pins.specs.Pins as pins

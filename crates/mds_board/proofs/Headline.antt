@@ -1,14 +1,21 @@
 -- What a replay says of plans and of the cluster.
-use Rattle.std.proofs.Common.{◌≡◌, ℕ, zero, suc, Bool, true, false, List, [], ◌∷◌, ◌++◌, Option, Some, None, All, refl, sym, ap, ◌∙◌, append_assoc, append-nil, arith, subst}
+use Rattle.std.proofs.Common.{◌≡◌, ℕ, zero, suc, Bool, true, false, List, [], ◌∷◌, ◌++◌, Option, Some, None, All, refl, sym, ap, ◌∙◌, append_assoc, append-nil, arith, length, subst}
+use Rattle.std.specs.Prelude.{◌<◌}
 use Rattle.std.proofs.lemmas.Bool.{false≢true}
+use Rattle.std.proofs.lemmas.List.{length-map}
 use Rattle.std.proofs.lemmas.List.Elements.{All-append}
 use Rattle.mds_types.specs.declared.plan.Plan.{Plan}
+use Rattle.mds_types.specs.declared.problem.ProblemRow.{ProblemRow}
+use Rattle.mds_types.specs.Placing.{IsPlacing, moved, moved_at}
 use Rattle.mds_types.specs.Problem.{ProblemData}
-use Rattle.mds_types.specs.Certificate.{IsBest, IsCertified}
-use Rattle.mds_types.specs.RankSet.{rank_count}
+use Rattle.mds_types.specs.Certificate.{IsBest, IsCertified, plan_label, plan_rank}
+use Rattle.mds_types.specs.RankSet.{has_rank, rank_count}
+use Rattle.mds_types.proofs.SumsLemmas.{sum_below-same}
 use Rattle.dirtree.specs.Tree.{Entry as DirEntry, IsTree, is_there, parent_of, root}
 use Rattle.dirtree.proofs.TreeFacts.{made_tree, removed_tree}
-use Rattle.tree_parts.proofs.DirDivisions.{no_cooler}
+use Rattle.tree_parts.specs.DirDivision.{row_label}
+use Rattle.tree_parts.specs.ProblemRows.{problem_rows, row_of}
+use Rattle.tree_parts.proofs.DirDivisions.{moves_agree, no_cooler, placed_rows}
 use Rattle.export_protocol.specs.Cluster.{World as Cluster}
 use Rattle.export_protocol.specs.declared.event.Event.{Event}
 use Rattle.export_protocol.specs.declared.event.Event.TheVariants.{Made, Gone}
@@ -19,12 +26,12 @@ use Rattle.mds_board.specs.declared.change.Answer.TheVariants as answer
 use Rattle.mds_board.specs.declared.change.Change.{Change}
 use Rattle.mds_board.specs.declared.change.Change.TheVariants.{Make, Remove, Mask, Deposit, Tick, Step, Open, Adopt}
 use Rattle.mds_board.specs.declared.change.Change.TheVariants as change
-use Rattle.mds_board.specs.State.{State, Opened, start, refusal, happens, next, first_of, marked, marked_if, problem_of, after_event, usable, authorities, adopt_cause, unless_changed}
+use Rattle.mds_board.specs.State.{State, Opened, start, refusal, happens, next, first_of, marked, marked_if, problem_of, after_event, usable, authorities, adopt_cause, dirs_of, unless_changed}
 use Rattle.mds_board.specs.Steps.{IsBestForOpen}
 use Rattle.mds_board.proofs.Accepted.{may_make, may_remove, may_step, no_cause}
 use Rattle.mds_board.specs.declared.entry.Entry.{Entry}
 use Rattle.mds_board.specs.History.{IsReplay, after}
-use Rattle.mds_board.specs.Promises.{AdoptsBest, AdoptsCoolest, OpensDirectories, leaves_problem, cluster_event, cluster_events}
+use Rattle.mds_board.specs.Promises.{AdoptsBest, AdoptsCoolest, IsCheapest, OpensDirectories, leaves_problem, cluster_event, cluster_events}
 
 -- the first entries and the rest of a replay
 
@@ -165,6 +172,27 @@ tree_after : (s : State) (es : List Entry) (t : State) → IsReplay s es t → I
 tree_after s [] t r tree = subst (λ (u : State). IsTree u.directories.entries) (sym r) tree
 tree_after s (e ∷ es) t r tree = tree_after (next s e.change) es t r.3 (tree_next s e.change tree r.0)
 
+-- A best plan places the directories best.
+cheapest : (s : State) (plan : Plan) → IsTree s.directories.entries → IsBest (problem_of s) plan → IsCheapest s plan
+cheapest s plan tree best label same =
+    let rows : List ProblemRow = problem_rows s.directories.entries s.pins.own s.heats.heats (authorities s) in
+    let size : length rows ≡ length (dirs_of s) = length-map (dirs_of s) (row_of s.directories.entries s.heats.heats (authorities s) (dirs_of s)) in
+    let by_dirs : ℕ → ℕ = row_label s.directories.entries s.pins.own label in
+    let alike : (i : ℕ) → i < length rows → by_dirs i ≡ plan_label plan i = λ i l. same i (omega (arith, size, l)) in
+    let cost : (rank : ℕ → ℕ) → moved rows by_dirs rank ≡ moved rows (plan_label plan) rank = λ rank.
+    sum_below-same (length rows) _ _ (λ i l. ap (λ (p : ℕ). moved_at rows i (rank p)) (alike i l)) in
+    let in_dirs = λ (rank : ℕ → ℕ). moves_agree s.directories.entries s.pins.own s.heats.heats (authorities s) tree (usable s) label rank in (
+      sym (in_dirs (plan_rank plan)) ∙ (cost (plan_rank plan) ∙ best.moved_is),
+      λ rank is.
+          (let placed : IsPlacing rows (usable s) by_dirs rank = placed_rows s.directories.entries s.pins.own s.heats.heats (authorities s) tree (usable s) label rank is in
+          let as_planned : IsPlacing rows (usable s) (plan_label plan) rank = record {
+            usable = λ i l. subst (λ p. has_rank (usable s) (rank p) ≡ true) (alike i l) (placed.usable i l);
+            distinct = λ i j l m one.
+                sym (alike i l) ∙ (placed.distinct i j l m (ap rank (alike i l) ∙ (one ∙ sym (ap rank (alike j m)))) ∙ alike j m);
+          } in
+          omega (arith, best.cheapest rank as_planned, cost rank, in_dirs rank)),
+    )
+
 opened_reply : (s : State) → (happens s Open).reply ≡ answer.Problem (problem_of s)
 unfolding happens
 opened_reply s = refl
@@ -177,7 +205,10 @@ opens_directories limit active history t r earlier more reply is =
     let tree : IsTree s.directories.entries = tree_after (start limit active) earlier s parts.0 first_tree in (
       parts.1.2 ∙ opened_reply s,
       tree,
-      λ plan best label is. no_cooler s.directories.entries s.pins.own s.heats.heats (authorities s) tree (rank_count (usable s)) label plan.greatest best.least is,
+      λ plan best. (
+        λ label is. no_cooler s.directories.entries s.pins.own s.heats.heats (authorities s) tree (rank_count (usable s)) label plan.greatest best.least is,
+        cheapest s plan tree best,
+      ),
     )
 
 -- Each adopted plan divides the directories as they were at the opening of its problem.
@@ -192,13 +223,15 @@ adopts_coolest first history opens adopts before more plan reply is =
     let opening : Entry = record { change = Open; reply = answer.Problem a.2 } in
     let o = opens a.0 (a.1 ++ adoption ∷ more) (answer.Problem a.2)
     (is ∙ (ap (λ (es : List Entry). es ++ adoption ∷ more) a.3 ∙ append_assoc a.0 (opening ∷ a.1) (adoption ∷ more))) in
-    let asked = same_problem a.2 (problem_of (after first a.0)) o.0 in (
+    let asked = same_problem a.2 (problem_of (after first a.0)) o.0 in
+    let best = o.2 plan (subst (λ (q : ProblemData). IsBest q plan) asked a.5) in (
       a.0,
       a.1,
       (
         a.3 ∙ ap (λ (r : Answer). a.0 ++ record { change = Open; reply = r } ∷ a.1) o.0,
         a.4,
-        o.2 plan (subst (λ (q : ProblemData). IsBest q plan) asked a.5),
+        best.0,
+        best.1,
       ),
     )
 

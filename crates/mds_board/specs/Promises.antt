@@ -1,13 +1,14 @@
 -- What holds of every history.
-use Rattle.std.specs.Prelude.{◌≡◌, ◌≤◌, ◌==◌, ℕ, Bool, true, false, List, [], ◌∷◌, ◌++◌, All, filter, length}
+use Rattle.std.specs.Prelude.{◌≡◌, ◌<◌, ◌≤◌, ◌==◌, ℕ, Bool, true, false, List, [], ◌∷◌, ◌++◌, All, filter}
+use Rattle.std.specs.Prelude.{length, slice_index}
 use Rattle.authority_map.specs.Operations.{Operation}
 use Rattle.dirtree.specs.Tree.{IsTree}
 use Rattle.heat_ledger.specs.Rows.{at}
-use Rattle.mds_types.specs.Certificate.{IsBest, IsCertified}
+use Rattle.mds_types.specs.Certificate.{IsBest, IsCertified, plan_label, plan_rank}
 use Rattle.mds_types.specs.Problem.{ProblemData}
 use Rattle.mds_types.specs.RankSet.{rank_count}
 use Rattle.mds_types.specs.declared.plan.Plan.{Plan}
-use Rattle.tree_parts.specs.DirDivision.{IsDirDivision, greatest_dir_heat}
+use Rattle.tree_parts.specs.DirDivision.{IsDirDivision, IsDirPlacing, dir_moved, greatest_dir_heat}
 use Rattle.export_protocol.specs.declared.event.Event.{Event}
 use Rattle.export_protocol.specs.declared.event.Event.TheVariants.{Made, Gone, Begin}
 use Rattle.export_protocol.specs.Step as machine
@@ -17,7 +18,7 @@ use Rattle.mds_board.specs.declared.change.Answer.TheVariants as answer
 use Rattle.mds_board.specs.declared.change.Change.{Change}
 use Rattle.mds_board.specs.declared.change.Change.TheVariants.{Make, Remove, Deposit, Tick, Step, Open, Adopt}
 use Rattle.mds_board.specs.declared.change.Change.TheVariants as change
-use Rattle.mds_board.specs.State.{State, start, problem_of, usable}
+use Rattle.mds_board.specs.State.{State, authorities, dirs_of, problem_of, start, usable}
 use Rattle.mds_board.specs.Steps.{IsFitting}
 use Rattle.mds_board.specs.declared.entry.Entry.{Entry}
 use Rattle.mds_board.specs.History.{World, IsReplay, after}
@@ -29,15 +30,27 @@ IsCoolest s plan =
     (label : ℕ → ℕ) → IsDirDivision s.directories.entries s.pins.own (rank_count (usable s)) label
     → plan.greatest ≤ greatest_dir_heat s.directories.entries s.pins.own s.heats.heats (rank_count (usable s)) label
 
+-- the labels give each directory that no pin holds the number of its part in the plan
+abbrev pub AreLabelsOf : State → Plan → (ℕ → ℕ) → Type 0
+AreLabelsOf s plan label = (i : ℕ) → i < length (dirs_of s) → label (slice_index (dirs_of s) i) ≡ plan_label plan i
+
+-- the plan's ranks move the inodes that it says, and no placing of its parts on usable ranks moves fewer
+abbrev pub IsCheapest : State → Plan → Type 0
+IsCheapest s plan =
+    (label : ℕ → ℕ) → AreLabelsOf s plan label
+    → (dir_moved s.directories.entries s.pins.own (authorities s) label (plan_rank plan) ≡ plan.moved)
+    × ((rank : ℕ → ℕ) → IsDirPlacing s.directories.entries s.pins.own (usable s) label rank
+    → plan.moved ≤ dir_moved s.directories.entries s.pins.own (authorities s) label rank)
+
 -- Each problem in a history that begins at first is that of the tree, pins, heats, mask and authorities as they were
--- when it was opened. The directories were a tree then, and a best plan for the problem divides them best.
+-- when it was opened. The directories were a tree then, and a best plan for the problem divides and places them best.
 abbrev pub OpensDirectories : State → List Entry → Type 0
 OpensDirectories first history =
     (earlier more : List Entry) (reply : Answer)
     → history ≡ earlier ++ record { change = Open; reply = reply } ∷ more
     → let s = after first earlier in
     (reply ≡ answer.Problem (problem_of s)) × IsTree s.directories.entries
-    × ((plan : Plan) → IsBest (problem_of s) plan → IsCoolest s plan)
+    × ((plan : Plan) → IsBest (problem_of s) plan → IsCoolest s plan × IsCheapest s plan)
 
 -- a change that leaves the tree, the pins, the mask and the problem that is open as they are
 abbrev pub leaves_problem : Change → Bool
@@ -58,7 +71,8 @@ AdoptsBest history =
     × All (λ e. leaves_problem e.change ≡ true) between × IsBest problem plan × IsCertified problem plan
 
 -- Each plan in a history that begins at first was adopted after a problem was opened, with only weights, deposits, ticks
--- and events of the cluster in between, and no division of the directories as they were at that opening is cooler.
+-- and events of the cluster in between. No division of the directories as they were at that opening is cooler, and no
+-- placing of the plan's parts of them moves fewer inodes.
 abbrev pub AdoptsCoolest : State → List Entry → Type 0
 AdoptsCoolest first history =
     (before more : List Entry) (plan : Plan) (reply : Answer)
@@ -66,7 +80,7 @@ AdoptsCoolest first history =
     → (earlier between : List Entry)
     × let s = after first earlier in
     (before ≡ earlier ++ record { change = Open; reply = answer.Problem (problem_of s) } ∷ between)
-    × All (λ e. leaves_problem e.change ≡ true) between × IsCoolest s plan
+    × All (λ e. leaves_problem e.change ≡ true) between × IsCoolest s plan × IsCheapest s plan
 
 -- the events of the cluster that a change makes
 abbrev pub cluster_event : Change → List Event

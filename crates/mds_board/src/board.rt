@@ -1,6 +1,6 @@
 //! The board.
 ghost use Rattle.std.specs.Prelude.{◌≡◌, ◌≤◌, ◌⊎◌, ℕ, ◌+◌, [], All, IfOk, IfErr, IsErr, OnOk, OnErr};
-ghost use Rattle.std.specs.Prelude.{MatchBool, None, Some, false, replicate, true};
+ghost use Rattle.std.specs.Prelude.{MatchBool, None, Some, false, replicate, true, vec_len};
 ghost use Rattle.mds_types.specs.Certificate.{IsBest, IsCertified};
 ghost use Rattle.mds_types.specs.declared.plan.Plan.{Plan};
 ghost use Rattle.heat_ledger.specs.Opening.{fresh_share};
@@ -15,7 +15,7 @@ use crate::history::History;
 use crate::{
     Answer, BoardError, BoardParts, BoardState, Change, KeptEvent, KeptPlan, Solver, or_memory,
 };
-use authority_map::Publisher;
+use authority_map::{MapReader, Publisher};
 use dirtree::Name;
 use export_protocol::{Event, Reply};
 use heat_ledger::{Missing, Share};
@@ -85,7 +85,7 @@ impl<J: Naming, M: Publisher<J>> Board<J, M> {
             return Err(or_memory(self.state.tick_refusal()));
         }
         self.state.tick()?;
-        self.history.keep(Change::Tick, Answer::Done);
+        self.history.keep_tick();
         Ok(())
     }
 
@@ -288,6 +288,17 @@ impl<J: Naming, M: Publisher<J>> Board<J, M> {
             (self.new ≡ self.old) }
     {
         self.state.publish()
+    }
+
+    /// Opens the map anew, for this many readers, which hold all that is published. Readers of before find it closed.
+    /// It is no event. Where memory is refused, nothing has changed.
+    pub fn reopen(&mut self, alloc: Global, readers: u8) -> Result<Vec<MapReader<J>>, AllocError>
+        requires readers { (1 ≤ readers) × (readers ≤ 64) }
+        ensures count { IfOk result (λ made. vec_len made ≡ readers) }
+        ensures readers { IfOk result (λ made. All (λ reader. reader ≡ self.old.published) made.items) }
+        ensures same { self.new ≡ self.old }
+    {
+        self.state.reopen(alloc, readers)
     }
 
     /// For a caller that has all shares of the ledger: the counted and the pending hits are the hits of the shares, and

@@ -1,5 +1,5 @@
 //! The accepted changes of a board, as memory holds them.
-ghost use Rattle.std.specs.Prelude.{◌≡◌, ◌<◌, ◌++◌, ◌∷◌, [], OnOk, Some, length, slice_get};
+ghost use Rattle.std.specs.Prelude.{◌≡◌, ◌<◌, ◌++◌, ◌∷◌, [], IsTrue, OnOk, Some, length, slice_get};
 ghost use Rattle.std.specs.Option.{option_map};
 ghost use Rattle.mds_board.specs.Stored.{HasRoom, began, ended, shown_entry};
 
@@ -32,7 +32,7 @@ pub enum Shown<'h> {
 /// The accepted changes of a board, each with its reply, in order. To a contract it is the list of them, and for how
 /// many more there is room.
 ///
-/// Requests come in great numbers, so that one begins or ends takes 16 bytes.
+/// Requests come in great numbers, so that one begins or ends takes 16 bytes. So does a tick after another one.
 #[derive(Drop)]
 pub struct History {
     slots: Vec<Slot>,
@@ -47,6 +47,16 @@ impl Model for History {
     ghost view = { λ h. stored h.slots h.others };
 
     ghost invariant = { λ h. AreSlots h.others.items h.slots.items };
+}
+
+// Whether an entry is a tick.
+fn is_tick(entry: &Entry) -> bool
+    ensures { IsTrue result → entry.now ≡ record { change = Change.Tick; reply = Answer.Done } }
+{
+    match (&entry.change, &entry.reply) {
+        (Change::Tick, Answer::Done) => true,
+        _ => false,
+    }
 }
 
 impl History {
@@ -109,6 +119,19 @@ impl History {
     {
         self.slots.push_reserved(Slot::Other(self.others.len()));
         self.others.push_reserved(Entry { change, reply });
+    }
+
+    /// Keeps a tick. Those that come one after the other have one entry.
+    pub(crate) fn keep_tick(&mut self)
+        requires { HasRoom 1 self.old }
+        ensures { self.new.entries ≡ self.old.entries ++ record { change = Change.Tick; reply = Answer.Done } ∷ [] }
+    {
+        let count = self.others.len();
+        if count > 0 && is_tick(&self.others[count - 1]) {
+            self.slots.push_reserved(Slot::Other(count - 1));
+        } else {
+            self.keep(Change::Tick, Answer::Done);
+        }
     }
 
     /// Keeps an event of the cluster with its reply, and answers the reply.

@@ -1,6 +1,6 @@
 //! One state of a board.
 ghost use Rattle.std.specs.Prelude.{◌≡◌, ◌+◌, ◌++◌, ◌≤◌, [], List, replicate, length, nat_le};
-ghost use Rattle.std.specs.Prelude.{IfOk, IfErr, MatchBool, None};
+ghost use Rattle.std.specs.Prelude.{All, IfOk, IfErr, MatchBool, None, vec_len};
 ghost use Rattle.mds_board.specs.State.{event_limit, first_of, marked, start, usable};
 ghost use Rattle.mds_board.specs.Steps.{refused_for, IsFitting};
 ghost use Rattle.authority_map.specs.Operations.{Operation};
@@ -8,7 +8,7 @@ ghost use Rattle.authority_map.specs.Operations.{Operation};
 use crate::board_error::BoardError;
 use crate::opening::{InForce, OpenProblem};
 use crate::weights::Weights;
-use authority_map::{Published, Publisher};
+use authority_map::{MapReader, Published, Publisher};
 use dir_pins::Pins;
 use dirtree::Tree;
 use export_machine::Cluster;
@@ -157,6 +157,20 @@ impl<J: Naming, M: Publisher<J>> BoardState<J, M> {
             (self.new ≡ self.old) }
     {
         self.map.publish().is_ok()
+    }
+
+    /// Opens the map anew, for this many readers, which hold all that is published. Readers of before find it closed.
+    /// It is no event. Where memory is refused, nothing has changed.
+    pub fn reopen(&mut self, alloc: Global, readers: u8) -> Result<Vec<MapReader<J>>, AllocError>
+        requires readers { (1 ≤ readers) × (readers ≤ 64) }
+        ensures count { IfOk result (λ made. vec_len made ≡ readers) }
+        ensures readers { IfOk result (λ made. All (λ reader. reader ≡ self.old.published) made.items) }
+        ensures same { self.new ≡ self.old }
+    {
+        match self.map.reopen(alloc, readers) {
+            Ok(made) => Ok(made),
+            Err(_) => Err(AllocError),
+        }
     }
 
     /// A token of what is published, for the map's readers.
