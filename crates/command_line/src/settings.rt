@@ -30,6 +30,7 @@ Commands of a script, one a line:
   cost [PATH ..]    print what the division at these directories costs
   plan              make, adopt and print a best plan
   move              move directories to the ranks of their pins and of the plan
+  traffic           serve the queued requests while directories move
   stop RANK         stop a rank
   restart RANK      restart a rank
   stat              print a report on all directories

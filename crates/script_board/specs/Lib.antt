@@ -9,3 +9,4 @@ pub mod PlanCost
 pub mod Serve
 pub mod Stat
 pub mod Steps
+pub mod Traffic

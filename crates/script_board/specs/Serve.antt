@@ -17,7 +17,7 @@ use Rattle.phased_board.specs.Begun.{IsEndTold}
 use Rattle.rank_threads.specs.Asking.{AreServed}
 use Rattle.rank_threads.specs.Serving.{begun_on, hits_on}
 use Rattle.rank_threads.specs.Totals.{over_ranks}
-use Rattle.rank_threads.specs.Ways.{own_ranks}
+use Rattle.rank_threads.specs.Ways.{Way, own_ranks}
 use Rattle.script_board.specs.declared.dealing.Seat.{Seat}
 use Rattle.script_board.specs.declared.fault.Fault.{Fault}
 use Rattle.script_board.specs.declared.load.Load.{Load}
@@ -91,21 +91,22 @@ abbrev pub unless_done : Result Unit BoardError → List Fault
 unless_done (Ok done) = []
 unless_done (Err error) = board_fault error ∷ []
 
--- The waiting requests were served and the shares deposited, by a thread a rank. Each request has an answer, which is
--- what the board said when it was asked; the shares count what the answers name, the hits of each kind by themselves;
--- and these refusals were met: those of requests in the order of their loads, the first of an end, and the first of a
--- deposit.
-pub record IsServed (old : BoardData) (refused : List Fault) (new : BoardData) : Type 0 where
+-- The waiting requests were served and the shares deposited, by a thread a rank, which finds the rank to ask in its
+-- way; exports may have gone on meanwhile. Each request has an answer, which is what the board said when it was asked;
+-- the shares count what the answers name, the hits of each kind by themselves; and these refusals were met: those of
+-- requests in the order of their loads, the first of an end, and the first of a deposit.
+pub record IsServedBy (exports : Bool) (ways later : List Way) (old : BoardData) (refused : List Fault)
+    (new : BoardData) : Type 0 where
   pub scripts : List (List Work)
   pub seats : List Seat
   pub answers : List (List WorkAnswer)
   pub ended : Result Unit BoardError
   pub deposited : Result Unit BoardError
   pub dealt : IsDealt old.world (length old.shares) (waiting old) scripts seats
-  pub served : AreServed old.world.state.directories.limit old.world new.world.history old.shares
-      (own_ranks 0 (length old.shares)) scripts answers new.shares (own_ranks 0 (length old.shares)) deposited
+  pub served : AreServed old.world.state.directories.limit old.world new.world.history old.shares ways scripts answers
+      new.shares later deposited
   pub end_told : IsEndTold old.world new.world ended
-  pub went : WentOnBy true false old.world new.world
+  pub went : WentOnBy true exports old.world new.world
   pub begun : (d : ℕ) → d < old.world.state.directories.limit → at new.world.state.begun d
       ≡ at old.world.state.begun d + over_ranks (begun_on d) scripts answers
   pub counted : (e : ℕ) → e < old.world.state.directories.limit + old.world.state.directories.limit
@@ -113,10 +114,15 @@ pub record IsServed (old : BoardData) (refused : List Fault) (new : BoardData) :
       ≡ (at old.world.state.counted e + pending_of old.shares e) + over_ranks (hits_on e) scripts answers
   pub told : refused ≡ refusals answers seats ++ unless_done ended ++ unless_done deposited
 
+-- The waiting requests were served, each at its thread's own rank.
+abbrev pub IsServed : BoardData → List Fault → BoardData → Type 0
+IsServed old refused new =
+    IsServedBy false (own_ranks 0 (length old.shares)) (own_ranks 0 (length old.shares)) old refused new
+
 -- The waiting requests were served, and none waits any more.
 abbrev pub IsGone : BoardData → List Fault → BoardData → Type 0
 IsGone old refused new = IsServed old refused new × (new.loads ≡ []) × (new.kept ≡ old.kept)
 
--- Memory sufficed for all that `go` did, unless a refusal says otherwise.
+-- Memory sufficed for all that `go` or `traffic` did, unless a refusal says otherwise.
 abbrev pub is_ample : List Fault → Bool
 is_ample refused = not (list_any is_memory refused)

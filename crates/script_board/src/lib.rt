@@ -18,9 +18,11 @@ pub mod script_board;
 mod serve;
 mod stat;
 mod steps;
+pub mod traffic;
 
 pub use export_fact::ExportFact;
 pub use fault::Fault;
 pub use load::Load;
 pub use parts::Parts;
 pub use script_board::ScriptBoard;
+pub use traffic::Carried;

@@ -60,8 +60,8 @@ impl<J: Naming + Send + Sync, M: Publisher<J> + Send> ScriptBoard<J, M> {
 }
 
 impl<J: Naming, M: Publisher<J>> ScriptBoard<J, M> {
-    // The orders of pins, and then those of the last plan.
-    fn all_orders(&self, alloc: Global) -> Result<Vec<Order>, AllocError>
+    /// The orders of pins, and then those of the last plan.
+    pub(crate) fn all_orders(&self, alloc: Global) -> Result<Vec<Order>, AllocError>
         ensures { IfOk result (λ orders. orders.items ≡ move_orders self.now) }
     {
         let mut orders = self.board.pin_orders(alloc)?;

@@ -72,8 +72,8 @@ impl<J: Naming + Send + Sync, M: Publisher<J> + Send> ScriptBoard<J, M> {
 }
 
 impl<J: Naming, M: Publisher<J>> ScriptBoard<J, M> {
-    // Deals the waiting requests to the ranks, and asks for room for the refusals that may be met.
-    fn prepare(&self, alloc: Global) -> Result<(Dealt, Vec<Fault>), AllocError>
+    /// Deals the waiting requests to the ranks, and asks for room for the refusals that may be met.
+    pub(crate) fn prepare(&self, alloc: Global) -> Result<(Dealt, Vec<Fault>), AllocError>
         ensures dealt { IfOk result (λ r. IsDealt self.now.world (length self.now.shares) (waiting self.now)
             (map (λ s. s.items) r.0.scripts.items) r.0.seats.items) }
         ensures none { IfOk result (λ r. r.1.items ≡ []) }
@@ -85,8 +85,12 @@ impl<J: Naming, M: Publisher<J>> ScriptBoard<J, M> {
         Ok((dealt, refused))
     }
 
-    // The shares that a phase gave back, and the refusals that it met.
-    fn told(dealt: &Dealt, ranks: Ranks<J>, refused: Vec<Fault>) -> (Vec<Share<J>>, Vec<Fault>)
+    /// The shares that a phase gave back, and the refusals that it met.
+    pub(crate) fn told(
+        dealt: &Dealt,
+        ranks: Ranks<J>,
+        refused: Vec<Fault>,
+    ) -> (Vec<Share<J>>, Vec<Fault>)
         requires none { refused.items ≡ [] }
         requires room { length dealt.now.seats.items + 2 ≤ vec_capacity refused }
         ensures shares { result.0.items ≡ ranks.shares.items }

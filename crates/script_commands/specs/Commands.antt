@@ -63,6 +63,7 @@ pub data Command : Type 0 where
   Cost : List (List ℕ) → Command
   Plan : Command
   Move : Command
+  Traffic : Command
   Stop : ℕ → Command
   Restart : ℕ → Command
   Stat : Command
@@ -197,6 +198,7 @@ command (word ∷ rest) =
     else if bytes_eq word (codes "cost") then Some (Cost rest)
     else if bytes_eq word (codes "plan") then alone Plan rest
     else if bytes_eq word (codes "move") then alone Move rest
+    else if bytes_eq word (codes "traffic") then alone Traffic rest
     else if bytes_eq word (codes "stop") then stop rest
     else if bytes_eq word (codes "restart") then restart rest
     else if bytes_eq word (codes "stat") then alone Stat rest

@@ -19,6 +19,7 @@ view made.Tick = line.Tick
 view (made.Cost paths) = line.Cost (map (λ p. p.now) paths.items)
 view made.Plan = line.Plan
 view made.Move = line.Move
+view made.Traffic = line.Traffic
 view (made.Stop rank) = line.Stop rank
 view (made.Restart rank) = line.Restart rank
 view made.Stat = line.Stat

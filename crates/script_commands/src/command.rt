@@ -43,6 +43,8 @@ pub enum Command<'a> {
     Plan,
     /// The orders of pins and of the last plan are carried out.
     Move,
+    /// The waiting requests are served while the orders of pins and of the last plan are carried out.
+    Traffic,
     /// A rank stops.
     Stop(Rank),
     /// A rank runs again.
@@ -402,6 +404,8 @@ fn find_rarer_command<'a>(word: &[u8], rest: &'a [u8]) -> Option<Command<'a>>
         alone(Command::Plan, rest)
     } else if word == b"move".as_slice() {
         alone(Command::Move, rest)
+    } else if word == b"traffic".as_slice() {
+        alone(Command::Traffic, rest)
     } else if word == b"stop".as_slice() {
         stop(rest)
     } else if word == b"restart".as_slice() {

@@ -148,7 +148,7 @@ pub struct Form {
     fields: &'static [Field],
 }
 
-const FORMS: [Form; 25] = [
+const FORMS: [Form; 26] = [
     Form {
         word: "ranks",
         fields: &[ACTIVE],
@@ -195,6 +195,10 @@ const FORMS: [Form; 25] = [
     },
     Form {
         word: "move",
+        fields: &[],
+    },
+    Form {
+        word: "traffic",
         fields: &[],
     },
     Form {

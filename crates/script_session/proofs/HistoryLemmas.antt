@@ -128,6 +128,7 @@ does_longer b line.Tick p ample new h = from_changed b new change.Tick h.0
 does_longer b (line.Cost paths) p ample new h = same_longer b new h.4
 does_longer b line.Plan p ample new h = planned_longer b h.0 new h.1.adopted
 does_longer b line.Move p ample new h = went_longer false true b new h.2.went
+does_longer b line.Traffic p ample new h = went_longer true true b new h.2.served.went
 does_longer b (line.Stop rank) p ample new h = from_changed b new _ h.0
 does_longer b (line.Restart rank) p ample new h = from_changed b new _ h.0
 does_longer b line.Stat p ample new h = same_longer b new h.2

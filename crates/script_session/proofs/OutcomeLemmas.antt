@@ -1,4 +1,4 @@
--- Where memory suffices, a line other than `go`, `plan` and `move` has one answer.
+-- Where memory suffices, a line other than `go`, `plan`, `move` and `traffic` has one answer.
 use Rattle.std.proofs.Common.{◌≡◌, ℕ, Bool, true, false, List, refl, sym, ap, ◌∙◌, inl, inr, Option, Some, None, Result, Ok, Err}
 use Rattle.export_protocol.specs.declared.event.Reply.{Reply}
 use Rattle.script_engine.specs.Answers.{Answer, IsDetermined}
@@ -6,7 +6,7 @@ use Rattle.script_commands.specs.Commands as line
 use Rattle.script_commands.specs.Commands.{Asked, Command, asked}
 use Rattle.script_board.specs.declared.fault.Fault.{Fault}
 use Rattle.script_board.specs.Board.{BoardData}
-use Rattle.script_session.specs.Does.{Changes, Does, IsQuiet, Meaning, Moves, Plans, Prints, Reports, Serves, Steps, cause, failure, is_function, meaning}
+use Rattle.script_session.specs.Does.{Changes, Does, IsQuiet, Meaning, Moves, Plans, Prints, Reports, Serves, Steps, Traffics, cause, failure, is_function, meaning}
 use Rattle.script_session.specs.Outcome.{answer_to, held, is_determined, is_sure, line_outcome, outcome, outcome_at, printed, replied, silent, told}
 use Rattle.script_session.specs.Printed.{Printed}
 use Rattle.script_session.specs.Session.{DoesAt, IsDone, IsTold, SessionData, answers, asked_cause, cause_at}
@@ -22,6 +22,7 @@ does_outcome b (Steps step) p ample new sure h = ap replied h.1 ∙ ap (λ (x : 
 does_outcome b Serves p ample new sure h = cc
 does_outcome b Plans p ample new sure h = cc
 does_outcome b Moves p ample new sure h = cc
+does_outcome b Traffics p ample new sure h = cc
 
 silent_fault : (r : Result BoardData Fault) (fault : Fault) → failure r ≡ Some fault → silent r ≡ Err fault
 silent_fault (Ok b) fault h = cc
@@ -43,6 +44,7 @@ cause_outcome b (Steps step) fault sure h = replied_fault _ fault h
 cause_outcome b Serves fault sure h = cc
 cause_outcome b Plans fault sure h = cc
 cause_outcome b Moves fault sure h = cc
+cause_outcome b Traffics fault sure h = cc
 
 does_outcome_at : (limit : ℕ) (o : Option BoardData) (c : Command) (p : Printed) (ample : Bool) (new : BoardData) → is_determined (line.Asks c) ≡ true → DoesAt limit o c p ample new → outcome_at limit o c ≡ Ok (p, new)
 does_outcome_at limit (Some b) c p ample new sure h = does_outcome b (meaning c) p ample new sure h

@@ -6,7 +6,7 @@ use Rattle.script_board.specs.declared.fault.Fault.{Fault}
 use Rattle.script_board.specs.declared.fault.Fault.TheVariants.{Memory}
 use Rattle.script_board.specs.Board.{BoardData}
 use Rattle.script_session.specs.declared.done.Done.{Done}
-use Rattle.script_session.specs.declared.done.Done.TheVariants.{Served, Planned, Lines}
+use Rattle.script_session.specs.declared.done.Done.TheVariants.{Served, Planned, Lines, Carried}
 use Rattle.script_session.specs.Does.{IsCaused}
 use Rattle.script_session.specs.Done.{refused_by, shown_at}
 use Rattle.script_session.specs.Fault.{words}
@@ -32,6 +32,7 @@ shown_refused None done = refl
 shown_refused (Some b) (Served refused) = refl
 shown_refused (Some b) Planned = refl
 shown_refused (Some b) (Lines reply) = refl
+shown_refused (Some b) (Carried refused reply) = refl
 
 -- memory was refused for a line of the reply
 pub told_cut : (number count : ℕ) (p : Printed) (ample : Bool) (mid new : SessionData) → count < length p.lines → new ≡ mid → IsTold number p ample mid (cut_answer number (take count p.lines)) new

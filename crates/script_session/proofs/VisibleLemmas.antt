@@ -25,7 +25,7 @@ use Rattle.script_board.specs.Fault.{unless}
 use Rattle.script_board.specs.Looks.{export_facts, journal_entries}
 use Rattle.script_board.specs.Steps.{begin_at, find_all, start, take_step, with_request}
 use Rattle.script_session.specs.Printed.{Printed, joined, only_lines}
-use Rattle.script_session.specs.Does.{Changes, Meaning, Moves, Plans, Prints, Reports, Serves, Steps, costed, is_function, meaning}
+use Rattle.script_session.specs.Does.{Changes, Meaning, Moves, Plans, Prints, Reports, Serves, Steps, Traffics, costed, is_function, meaning}
 use Rattle.script_session.specs.Outcome.{LineOutcome, Outcome, answer_to, held, is_determined, line_outcome, outcome, outcome_at, printed, replied, silent, told}
 use Rattle.script_session.specs.Looks.{entry_line, fact_line, listed}
 use Rattle.script_session.specs.Steps.{event_of, step_line}
@@ -159,6 +159,7 @@ module _ (b : BoardData) (ops : List Operation) where
   like_on_board (line.Cost paths) sure = like_cost paths
   like_on_board line.Plan sure = cc
   like_on_board line.Move sure = cc
+  like_on_board line.Traffic sure = cc
   like_on_board (line.Stop rank) sure = like_silent _ _ (like_changed _)
   like_on_board (line.Restart rank) sure = like_silent _ _ (like_changed _)
   like_on_board line.Stat sure = cc
@@ -270,6 +271,7 @@ apart_is_function (Steps step) sure = refl
 apart_is_function Serves sure = sure
 apart_is_function Plans sure = sure
 apart_is_function Moves sure = sure
+apart_is_function Traffics sure = sure
 
 determined_when_told : (what : Asked) → tells_all what ≡ true → is_determined what ≡ true
 determined_when_told line.Nothing sure = refl

@@ -18,6 +18,7 @@ use Rattle.script_board.specs.Move.{IsMoved}
 use Rattle.script_board.specs.Plan.{IsPlanned, plan_due}
 use Rattle.script_board.specs.Serve.{IsGone, is_ample}
 use Rattle.script_board.specs.Steps.{begin_at, start, take_step}
+use Rattle.script_board.specs.Traffic.{IsTraffic}
 use Rattle.script_session.specs.Cost.{cost_lines}
 use Rattle.script_session.specs.Looks.{entry_line, fact_line, listed}
 use Rattle.script_session.specs.Move.{move_lines}
@@ -32,7 +33,8 @@ failure (Err fault) = Some fault
 
 -- A command changes the board and prints nothing, or prints lines about it and leaves it as it is, or is a step of
 -- exports or requests, to which the board replies: then a function says what it does. Or the waiting requests are
--- served, a plan is made, or directories are moved: several things may come of that.
+-- served, a plan is made, directories are moved, or requests are served while directories are moved: several things may
+-- come of that.
 pub data Meaning : Type 0 where
   Changes : (BoardData → Result BoardData Fault) → Meaning
   Prints : (BoardData → Result (List (List ℕ)) Fault) → Meaning
@@ -41,6 +43,7 @@ pub data Meaning : Type 0 where
   Serves : Meaning
   Plans : Meaning
   Moves : Meaning
+  Traffics : Meaning
 
 -- the lines about these parts
 abbrev pub costed : BoardData → Result (List Part) Fault → Result (List (List ℕ)) Fault
@@ -61,6 +64,7 @@ meaning line.Tick = Changes tick
 meaning (line.Cost paths) = Prints (λ b. costed b (cost b paths))
 meaning line.Plan = Plans
 meaning line.Move = Moves
+meaning line.Traffic = Traffics
 meaning (line.Stop rank) = Changes (λ b. stop b rank)
 meaning (line.Restart rank) = Changes (λ b. restart b rank)
 meaning line.Stat = Reports stat_lines
@@ -79,6 +83,7 @@ cause b (Steps step) = failure (step b)
 cause b Serves = None
 cause b Plans = failure (plan_due b)
 cause b Moves = None
+cause b Traffics = None
 
 -- whether the board determines what is printed and done
 abbrev pub is_function : Meaning → Bool
@@ -92,6 +97,7 @@ is_function _ = false
 abbrev pub is_by_threads : Meaning → Bool
 is_by_threads Serves = true
 is_by_threads Moves = true
+is_by_threads Traffics = true
 is_by_threads _ = false
 
 -- the fault is the one that applies, or `Memory` where none does
@@ -103,7 +109,7 @@ abbrev pub IsQuiet : Result BoardData Fault → Printed → Bool → BoardData �
 IsQuiet changed p ample new = (changed ≡ Ok new) × (p ≡ only_lines []) × (ample ≡ true)
 
 -- The board does what is meant: this is printed, and this is the board after it. Ample says whether memory sufficed
--- for all that it does; only `go` can go on without, and then reports it.
+-- for all that it does; only `go` and `traffic` can go on without, and then report it.
 abbrev pub Does : BoardData → Meaning → Printed → Bool → BoardData → Type 0
 Does b (Changes change) p ample new = IsQuiet (change b) p ample new
 Does b (Prints print) p ample new =
@@ -117,3 +123,6 @@ Does b Plans p ample new =
 Does b Moves p ample new =
     (orders : List Order) × (outcomes : List Outcome) × IsMoved b orders outcomes new × (p
     ≡ only_lines (move_lines new orders outcomes)) × (ample ≡ true)
+Does b Traffics p ample new =
+    (orders : List Order) × (outcomes : List Outcome) × IsTraffic b p.refused orders outcomes new × (p.lines
+    ≡ move_lines new orders outcomes) × (ample ≡ is_ample p.refused)

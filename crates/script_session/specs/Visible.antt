@@ -17,9 +17,9 @@ abbrev pub NoneSaysMemory : ℕ → List Answer → Type 0
 NoneSaysMemory number [] = Unit {0}
 NoneSaysMemory number (a ∷ more) = (SaysMemory number a → ⊥) × NoneSaysMemory (number + 1) more
 
--- Whether a line's answer is the same however much of the map is published: not so `go`, whose requests are asked of
--- the ranks that the published map names, nor the report, which shows them. (The answer doesn't say that no memory
--- was left to publish the map.)
+-- Whether a line's answer is the same however much of the map is published: not so `go` and `traffic`, whose requests
+-- are asked of the ranks that the published map names, nor the report, which shows them. (The answer doesn't say that
+-- no memory was left to publish the map.)
 abbrev pub ignores_map : Meaning → Bool
 ignores_map (Changes change) = true
 ignores_map (Prints print) = true

@@ -11,7 +11,7 @@ use crate::reply::CommandReply;
 use crate::stepped::event_of;
 use authority_map::Publisher;
 use proof_names::Naming;
-use script_board::{Fault, ScriptBoard};
+use script_board::{Carried, Fault, ScriptBoard};
 use script_commands::{Command, NewExport};
 use std::alloc::Global;
 use std::marker::{Send, Sync};
@@ -23,7 +23,7 @@ pub fn is_by_threads(command: &Command<'_>) -> bool
     ensures { result ≡ is_by_threads (meaning (view command.now)) }
 {
     match command {
-        Command::Go | Command::Move => true,
+        Command::Go | Command::Move | Command::Traffic => true,
         _ => false,
     }
 }
@@ -61,6 +61,22 @@ pub fn carry_out_by_threads<
                     board,
                     Ok(Done::Lines(CommandReply::Move(orders, outcomes))),
                 ),
+                Err(memory) => (board, Err(Fault::from(memory))),
+            }
+        }
+        Command::Traffic => {
+            let (board, carried) = board.traffic(rt, alloc);
+            match carried {
+                Ok(
+                    Carried {
+                        refused,
+                        orders,
+                        outcomes,
+                    },
+                ) => {
+                    let reply = CommandReply::Move(orders, outcomes);
+                    (board, Ok(Done::Carried(refused, reply)))
+                }
                 Err(memory) => (board, Err(Fault::from(memory))),
             }
         }
@@ -116,7 +132,7 @@ pub fn change<J: Naming, M: Publisher<J>, R: Threads + Sync>(
             let entries = board.journal_entries(alloc, rank)?;
             return Ok(Done::Lines(CommandReply::Journal(rank, entries)));
         }
-        Command::Go | Command::Move => unreachable!(),
+        Command::Go | Command::Move | Command::Traffic => unreachable!(),
     }
     Ok(Done::Lines(CommandReply::Nothing))
 }

@@ -14,6 +14,8 @@ pub enum Done {
     Planned,
     /// These lines.
     Lines(CommandReply),
+    /// These lines, and then a line for each refusal that requests and deposits met.
+    Carried(Vec<Fault>, CommandReply),
 }
 
 impl Done {
@@ -22,7 +24,7 @@ impl Done {
         ensures { result.now ≡ refused_by self.now }
     {
         match self {
-            Done::Served(refused) => refused.as_slice(),
+            Done::Served(refused) | Done::Carried(refused, _) => refused.as_slice(),
             _ => &[],
         }
     }

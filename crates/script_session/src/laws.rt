@@ -14,14 +14,14 @@ ghost use Rattle.script_session.specs.Visible.{IsSeenAs, NoneSaysMemory, TellsNo
 
 use board_certificates::laws::{all_best, all_certified};
 
-/// Where memory suffices for a line other than `go`, `plan` and `move`, its answer and what it leads to are a
-/// function of the session, the line's number and the line.
+/// Where memory suffices for a line other than `go`, `plan`, `move` and `traffic`, its answer and what it leads to are
+/// a function of the session, the line's number and the line.
 pub fn determined()
     ensures { IsDetermined is_sure answers answer_to }
 {}
 
-/// What a run of a script without `go`, `plan` and `move` writes is a function of its bytes, the limit and `strict`,
-/// where memory sufficed for each line.
+/// What a run of a script without `go`, `plan`, `move` and `traffic` writes is a function of its bytes, the limit and
+/// `strict`, where memory sufficed for each line.
 pub fn output_is_determined()
     ensures { (limit : ℕ) (strict : Bool) (bytes : List ℕ) (replies : List Answer) (last : SessionData)
         → list_all is_sure (lines_of bytes) ≡ true
@@ -31,15 +31,15 @@ pub fn output_is_determined()
 {}
 
 /// A line's answer shows where memory ran out: if no line of it says `refused 0 Memory`, the answer to a line other
-/// than `go`, `plan` and `move` is a function of the session, the line's number and the line, and so is the session
-/// after it, except that its map may not have been published.
+/// than `go`, `plan`, `move` and `traffic` is a function of the session, the line's number and the line, and so is the
+/// session after it, except that its map may not have been published.
 pub fn line_is_visible()
     ensures { (old new : SessionData) (number : ℕ) (line : List ℕ) (a : Answer) → is_sure line ≡ true
         → answers old number line a new → TellsNoMemory number a → IsSeenAs a new (answer_to old number line) }
 {}
 
-/// The output shows where memory ran out: what a run of a script without `plan`, `move`, `go` and `stat` writes is a
-/// function of its bytes, the limit and `strict`, if no answer says `refused 0 Memory`.
+/// The output shows where memory ran out: what a run of a script without `plan`, `move`, `go`, `traffic` and `stat`
+/// writes is a function of its bytes, the limit and `strict`, if no answer says `refused 0 Memory`.
 pub fn output_is_visible()
     ensures { (limit : ℕ) (strict : Bool) (bytes : List ℕ) (replies : List Answer) (last : SessionData)
         → list_all is_visible (lines_of bytes) ≡ true

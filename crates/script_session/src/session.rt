@@ -409,6 +409,7 @@ fn print<J: Naming, M: Publisher<J>, W: Write>(
             Err(_) => Err(Unprinted::Memory),
         },
         Done::Lines(reply) => print_reply(board, alloc, reply, page, writer),
+        Done::Carried(_, reply) => print_reply(board, alloc, reply, page, writer),
     }
 }
 

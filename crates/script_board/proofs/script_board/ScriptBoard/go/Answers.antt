@@ -1,4 +1,4 @@
-use Rattle.std.proofs.Common.{◌≡◌, ◌<◌, ◌+◌, ℕ, List, Vec, Global, length, map, refl, sym, subst, arith, ◌∙◌}
+use Rattle.std.proofs.Common.{◌≡◌, ℕ, false, List, Vec, Global, length, map, refl, sym, subst, arith, ◌∙◌}
 use Rattle.std.proofs.lemmas.List.{length-map}
 use Rattle.heat_ledger.specs.Ledger.{ShareData}
 use Rattle.rank_threads.specs.declared.work.Work.{Work}
@@ -9,6 +9,7 @@ use Rattle.script_board.specs.declared.dealing.Seat.{Seat}
 use Rattle.script_board.specs.Board.{BoardData}
 use Rattle.script_board.specs.Serve.{IsDealt, IsGone, waiting}
 use Rattle.script_board.proofs.DealingLemmas.{returned_length}
+use Rattle.script_board.proofs.ServeLemmas.{served_by}
 use Rattle.script_board.proofs.script_board.ScriptBoard.go.Goals as goal
 
 pub invariant_of-after : goal.invariant_of-after
@@ -43,24 +44,14 @@ returns-clause-done g c =
     subst (λ (l : List (Vec Work Global)). IsDealt old.world (length old.shares) (waiting old) (map (λ (s : Vec Work Global). s.items) l) seats) (sym c.deref.ensures.value)
     (subst (λ (b : BoardData). IsDealt b.world (length b.shares) (waiting b) (map (λ (s : Vec Work Global). s.items) c.in-Ok.prepared.0.scripts.items) seats) (sym as_before) c.in-Ok.ensures.dealt) in
     let ranks : length c.deref.result.now ≡ length old.shares = sym (length-map c.deref.result.now (λ (s : Vec Work Global). s.items)) ∙ dealt.as_many in
+    let served : AreServed g.J.Naming.limit old.world c.serve_with_totals-board.result.0.history old.shares (own_ranks 0 (length old.shares)) scripts answers c.in-Ok-done.ranks.shares.items (own_ranks 0 (length old.shares)) c.in-Ok-done.ranks.deposited =
+    subst (λ (n : ℕ). AreServed g.J.Naming.limit old.world c.serve_with_totals-board.result.0.history old.shares (own_ranks 0 n) scripts answers c.in-Ok-done.ranks.shares.items (own_ranks 0 n) c.in-Ok-done.ranks.deposited) ranks
+    (rw c.in-Ok-done.is at c.serve_with_totals-board.ensures.served) in
     subst (λ (shares : List ShareData). IsGone c.args.self c.told-shares.result.1.items (new shares)) (sym c.told-shares.ensures.shares)
     (subst (λ (b : BoardData). IsGone b c.told-shares.result.1.items (new c.in-Ok-done.ranks.shares.items)) as_before (
-      record {
-        scripts = scripts;
-        seats = seats;
-        answers = answers;
-        ended = c.in-Ok-done.ranks.ended;
-        deposited = c.in-Ok-done.ranks.deposited;
-        dealt = dealt;
-        served = subst (λ (n : ℕ). AreServed n old.world c.serve_with_totals-board.result.0.history old.shares (own_ranks 0 (length old.shares)) scripts answers c.in-Ok-done.ranks.shares.items (own_ranks 0 (length old.shares)) c.in-Ok-done.ranks.deposited) limit
-            (subst (λ (n : ℕ). AreServed g.J.Naming.limit old.world c.serve_with_totals-board.result.0.history old.shares (own_ranks 0 n) scripts answers c.in-Ok-done.ranks.shares.items (own_ranks 0 n) c.in-Ok-done.ranks.deposited) ranks
-            (rw c.in-Ok-done.is at c.serve_with_totals-board.ensures.served));
-        end_told = rw c.in-Ok-done.is at c.serve_with_totals-board.ensures.ended;
-        went = c.serve_with_totals-board.ensures.board;
-        begun = λ d inside. (let all = (rw c.in-Ok-done.is at c.serve_with_totals-board.ensures.totals).begun in all d (subst (λ (n : ℕ). d < n) (sym limit) inside));
-        counted = λ e inside. (let all = (rw c.in-Ok-done.is at c.serve_with_totals-board.ensures.totals).hits in all e (subst (λ (n : ℕ). e < n + n) (sym limit) inside));
-        told = c.told-shares.ensures.told;
-      },
+      served_by false g.J.Naming.limit (own_ranks 0 (length old.shares)) (own_ranks 0 (length old.shares)) old (new c.in-Ok-done.ranks.shares.items) c.told-shares.result.1.items scripts seats answers
+          c.in-Ok-done.ranks.ended c.in-Ok-done.ranks.deposited limit dealt served (rw c.in-Ok-done.is at c.serve_with_totals-board.ensures.totals) (rw c.in-Ok-done.is at c.serve_with_totals-board.ensures.ended)
+          c.serve_with_totals-board.ensures.board c.told-shares.ensures.told,
       c.clear.ensures.items,
       refl,
     ))
