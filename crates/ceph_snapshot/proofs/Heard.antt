@@ -1,19 +1,22 @@
 -- What was gathered of hearsay, of directories that are held as a whole and of claims, as more is read.
-use Rattle.std.proofs.Common.{◌≡◌, ◌≢◌, ◌∙◌, ◌<◌, ◌++◌, ◌∷◌, ◌==◌, ◌&&◌, [], ℕ, zero, suc, Bool, false, true, not, All, List, append-nil, length, map, get_or, refl, ap, sym, subst, arith, take, ◌≤◌, ◌||◌, ◌⊎◌, cond, inl, inr}
-use Rattle.std.specs.List.{flat_map, list_any, take_while}
-use Rattle.std.proofs.lemmas.Bool.{eq-eqb, eqb-true, false≢true, ne_eqb}
-use Rattle.std.proofs.lemmas.List.{map-append, take_all}
+use Rattle.std.proofs.Common.{◌≡◌, ◌≢◌, ◌∙◌, ◌-◌, ◌<◌, ◌++◌, ◌∷◌, ◌==◌, ◌&&◌, [], ℕ, zero, suc, Bool, false, true, not, All, List, append-nil, length, length-append, map, get_or, refl, ap, sym, subst, arith, take, ◌≤◌, ◌||◌, ◌⊎◌, cond, inl, inr, None, ⊎_elim}
+use Rattle.std.specs.List.{filter, flat_map, list_any, take_while}
+use Rattle.std.proofs.lemmas.Bool.{cases_lt, eq-eqb, eqb-true, false≢true, ne_eqb}
+use Rattle.std.proofs.lemmas.List.{get_or-append_right, get_or_append_left, get_or_push, length_push, map-append, take_all}
 use Rattle.std.proofs.lemmas.List.Concat.{flat_map-append}
-use Rattle.std.proofs.lemmas.List.Elements.{All-append}
+use Rattle.std.proofs.lemmas.List.Elements.{All-append, All-map}
+use Rattle.std.proofs.lemmas.Option.{none-some}
 use Rattle.std.proofs.lemmas.List.Sums.{prefix_len_is, take_while-cons}
 use Rattle.ceph_dumps.specs.declared.listing.ListedDir.{ListedDir}
+use Rattle.ceph_dumps.specs.declared.subtrees.SubtreeRoot.{SubtreeRoot}
 use Rattle.ceph_snapshot.specs.declared.gathering.Gathering.{Gathering}
 use Rattle.ceph_snapshot.specs.declared.gathering.Hearsay.{Hearsay}
 use Rattle.ceph_snapshot.specs.declared.names.Names.{Names}
 use Rattle.ceph_snapshot.specs.declared.tree.Node.{Node}
 use Rattle.ceph_snapshot.specs.Authority.{StillClaimed, is_user_path, node_path_at}
-use Rattle.ceph_snapshot.specs.Facts.{AreAsTold, Fact, KeepNumbers, StillTold, Value}
-use Rattle.ceph_snapshot.specs.Heard.{AreHeardAt, AreNumbersOf, HasTold, HeardRank, IsNotedIn, LiesInTop, StillHasTold, heard_at, heard_in, heard_in_fact, top_of_path, tops_in, tops_in_fact}
+use Rattle.ceph_snapshot.specs.Facts.{AreAsTold, Fact, KeepNumbers, Root, StillTold, Value, roots_in}
+use Rattle.ceph_snapshot.specs.Heard.{AreClaimsIn, AreHeardAt, AreNumbersOf, ClaimsByFact, ClaimsFragment, HasTold, HeardRank, IsNotedIn, LiesInTop, StillHasTold, heard_at, heard_in, heard_in_fact, top_of_path, tops_in, tops_in_fact}
+use Rattle.ceph_snapshot.specs.Names.{path_number}
 use Rattle.ceph_snapshot.specs.Sightings.{IsNumberOf}
 
 -- a directory that is there keeps its path
@@ -63,12 +66,13 @@ number_push nodes numbers i paths path at was = record {
 }
 
 -- nothing is said yet
-pub told_nothing : (g : Gathering) → AreAsTold g.tree.nodes [] → g.hearsay.items ≡ [] → g.tops.items ≡ [] → HasTold g []
-told_nothing g told hearsay tops = record {
+pub told_nothing : (g : Gathering) → AreAsTold g.tree.nodes [] → g.hearsay.items ≡ [] → g.tops.items ≡ [] → ((fragment : List ℕ) → path_number g.fragments fragment ≡ None) → HasTold g []
+told_nothing g told hearsay tops none = record {
   told = told;
   heard = subst (λ (hs : List Hearsay). AreHeardAt g.tree.nodes hs []) (sym hearsay) (record { inside = λ k d l. absurd (omega (arith, l)); are = refl });
   tops = subst (λ (is : List ℕ). AreNumbersOf g.tree.nodes is []) (sym tops) (record { inside = λ k d l. absurd (omega (arith, l)); are = refl });
   claims = λ k d l. absurd (omega (arith, l));
+  only = λ rank fragment is. absurd (none-some rank (sym (none fragment) ∙ is));
 }
 
 -- more directories are named
@@ -78,23 +82,50 @@ still_has g h still hearsay tops claims facts was = record {
   heard = subst (λ (hs : List Hearsay). AreHeardAt h.tree.nodes hs (heard_in facts)) (sym hearsay) (heard_kept g.tree.nodes h.tree.nodes g.hearsay.items (heard_in facts) still.numbers was.heard);
   tops = subst (λ (is : List ℕ). AreNumbersOf h.tree.nodes is (tops_in facts)) (sym tops) (numbers_kept_of g.tree.nodes h.tree.nodes g.tops.items (tops_in facts) still.numbers was.tops);
   claims = subst (λ (names : Names). All (IsNotedIn names) facts) (sym claims) was.claims;
+  only = subst (λ (names : Names). AreClaimsIn names facts) (sym claims) was.only;
 }
 
 pub claims_kept : (old new : Names) (facts : List Fact) → StillClaimed old new → All (IsNotedIn old) facts → All (IsNotedIn new) facts
 claims_kept old new facts keep was k d l rank fragment claim = keep fragment rank (was k d l rank fragment claim)
 
+-- a claim by some facts is one by more of them
+pub claims_more : (facts more : List Fact) (rank : ℕ) (fragment : List ℕ) → ClaimsFragment facts rank fragment → ClaimsFragment (facts ++ more) rank fragment
+claims_more facts more rank fragment claim =
+    let f : Fact = claim.0 in
+    let at : ℕ = claim.1.0 in
+    let inside : at < length facts = claim.1.1.0 in (
+      f,
+      (
+        at,
+        (omega (arith, inside, length-append facts more), claim.1.1.1 ∙ sym (get_or_append_left facts more f at inside)),
+      ),
+      claim.2,
+    )
+
+pub claims_last : (facts : List Fact) (f : Fact) (rank : ℕ) (fragment : List ℕ) → ClaimsByFact rank fragment f → ClaimsFragment (facts ++ f ∷ []) rank fragment
+claims_last facts f rank fragment claim = (f, (length facts, (omega (arith, length_push facts f), sym (get_or_push facts f f (length facts) refl))), claim)
+
+-- what another rank claims, it claims by the facts before those of a rank
+abbrev IsOfRank : ℕ → Fact → Type 0
+IsOfRank rank f = (other : ℕ) (fragment : List ℕ) → ClaimsByFact other fragment f → other ≡ rank
+
+pub claims_before : (facts : List Fact) (rank : ℕ) (roots : List SubtreeRoot) (other : ℕ) (fragment : List ℕ) → other ≢ rank → ClaimsFragment (facts ++ roots_in rank roots) other fragment
+    → ClaimsFragment facts other fragment
+claims_before facts rank roots other fragment apart claim =
+    let f : Fact = claim.0 in
+    let at : ℕ = claim.1.0 in
+    let those : List Fact = roots_in rank roots in
+    let inside : at < length (facts ++ those) = claim.1.1.0 in
+    let of_rank : All (IsOfRank rank) those = All-map (IsOfRank rank) (Root rank) (filter (λ root. is_user_path root.path.items) roots) (λ k d l who which by. sym by.0) in
+    ⊎_elim (λ (before : at < length facts). (f, (at, (before, claim.1.1.1 ∙ get_or_append_left facts those f at before)), claim.2))
+    (λ (after : length facts ≤ at).
+    let is : f ≡ get_or those (at - length facts) f = claim.1.1.1 ∙ get_or-append_right facts those (length facts) at f refl after in
+    absurd (apart (of_rank (at - length facts) f (omega (arith, inside, after, length-append facts those)) other fragment (subst (ClaimsByFact other fragment) is claim.2))))
+    (cases_lt at (length facts))
+
 -- one more fact
 pub piece : {A : Type 0} (of : Fact → List A) (facts : List Fact) (f : Fact) → flat_map of (facts ++ f ∷ []) ≡ flat_map of facts ++ of f
 piece of facts f = flat_map-append of facts (f ∷ []) ∙ ap (λ rest. flat_map of facts ++ rest) (append-nil (of f))
-
-pub told_one : (g : Gathering) (facts : List Fact) (f : Fact) → AreAsTold g.tree.nodes (facts ++ f ∷ []) → AreHeardAt g.tree.nodes g.hearsay.items (heard_in facts ++ heard_in_fact f)
-    → AreNumbersOf g.tree.nodes g.tops.items (tops_in facts ++ tops_in_fact f) → All (IsNotedIn g.fragments) facts → IsNotedIn g.fragments f → HasTold g (facts ++ f ∷ [])
-told_one g facts f told heard tops claims noted = record {
-  told = told;
-  heard = subst (AreHeardAt g.tree.nodes g.hearsay.items) (sym (piece heard_in_fact facts f)) heard;
-  tops = subst (AreNumbersOf g.tree.nodes g.tops.items) (sym (piece tops_in_fact facts f)) tops;
-  claims = All-append (IsNotedIn g.fragments) facts (f ∷ []) claims (all_single (IsNotedIn g.fragments) f noted);
-}
 
 -- a value says nothing of these
 pub no_piece : {A : Type 0} (of : Fact → List A) (facts : List Fact) (f : Fact) → of f ≡ [] → flat_map of (facts ++ f ∷ []) ≡ flat_map of facts
@@ -102,12 +133,13 @@ no_piece of facts f none = piece of facts f ∙ (ap (λ rest. flat_map of facts 
 
 pub told_value : (g : Gathering) (nodes : List Node) (facts : List Fact) (dir : ListedDir) → AreAsTold nodes (facts ++ Value dir ∷ []) → KeepNumbers g.tree.nodes nodes → HasTold g facts
     → AreAsTold nodes (facts ++ Value dir ∷ []) × AreHeardAt nodes g.hearsay.items (heard_in (facts ++ Value dir ∷ [])) × AreNumbersOf nodes g.tops.items (tops_in (facts ++ Value dir ∷ []))
-    × All (IsNotedIn g.fragments) (facts ++ Value dir ∷ [])
+    × All (IsNotedIn g.fragments) (facts ++ Value dir ∷ []) × AreClaimsIn g.fragments (facts ++ Value dir ∷ [])
 told_value g nodes facts dir told keep was = (
   told,
   subst (AreHeardAt nodes g.hearsay.items) (sym (no_piece heard_in_fact facts (Value dir) refl)) (heard_kept g.tree.nodes nodes g.hearsay.items (heard_in facts) keep was.heard),
   subst (AreNumbersOf nodes g.tops.items) (sym (no_piece tops_in_fact facts (Value dir) refl)) (numbers_kept_of g.tree.nodes nodes g.tops.items (tops_in facts) keep was.tops),
   All-append (IsNotedIn g.fragments) facts (Value dir ∷ []) was.claims (all_single (IsNotedIn g.fragments) (Value dir) (λ rank fragment claim. absurd claim)),
+  λ rank fragment is. claims_more facts (Value dir ∷ []) rank fragment (was.only rank fragment is),
 )
 
 -- what is told of the same directories

@@ -1,7 +1,8 @@
 -- What follows from the dumps, beside what is told of each directory: whom ranks take for the authority of what they
 -- don't have, where Ceph's own pins may be, which rank claims which fragment, and the heat of what is spread.
-use Rattle.std.specs.Prelude.{◌≡◌, ◌⊎◌, ◌==◌, ◌&&◌, ◌||◌, ◌/◌, ◌<◌, ◌++◌, ℕ, ℤ, pos, negsuc, All, Bool, true, not}
-use Rattle.std.specs.Prelude.{List, [], ◌∷◌, Some, length, map, min, slice_get, slice_index, sum_by, if◌then◌else◌}
+use Rattle.std.specs.Prelude.{◌≡◌, ◌≢◌, ◌⊎◌, ◌==◌, ◌&&◌, ◌||◌, ◌/◌, ◌<◌, ◌++◌, ℕ, ℤ, pos, negsuc, All, Bool, true, not}
+use Rattle.std.specs.Prelude.{List, [], ◌∷◌, Some, length, map, min, slice_get, slice_index, string_bytes, sum_by}
+use Rattle.std.specs.Prelude.{if◌then◌else◌}
 use Rattle.std.specs.List.{IsAmong, flat_map, list_any, take_while}
 use Rattle.std.specs.Option.{option_map}
 use Rattle.std.specs.Str.{bytes_eq}
@@ -12,12 +13,13 @@ use Rattle.ceph_snapshot.specs.declared.gathering.Hearsay.{Hearsay}
 use Rattle.ceph_snapshot.specs.declared.names.Names.{Names}
 use Rattle.ceph_snapshot.specs.declared.snapshot.Snapshot.{Snapshot}
 use Rattle.ceph_snapshot.specs.declared.tree.Node.{Node}
-use Rattle.ceph_snapshot.specs.Authority.{fragment_of, node_path_at}
+use Rattle.ceph_snapshot.specs.Authority.{PathText, fragment_of, node_path_at}
 use Rattle.ceph_snapshot.specs.Facts.{AreAsTold, Fact, Root, Value}
 use Rattle.ceph_snapshot.specs.Gathered.{listed_at, listed_of, with_unknown}
 use Rattle.ceph_snapshot.specs.Holding.{most_heat}
 use Rattle.ceph_snapshot.specs.Names.{IsPathBelow, path_number}
 use Rattle.ceph_snapshot.specs.Policies.{dir_path_at}
+use Rattle.ceph_snapshot.specs.Shown.{shown_path}
 use Rattle.ceph_snapshot.specs.Sightings.{PathHeat}
 
 -- whom a rank takes for the authority of a directory
@@ -93,12 +95,29 @@ abbrev pub IsNotedIn : Names → Fact → Type 0
 IsNotedIn claims f =
     (rank : ℕ) (fragment : List ℕ) → ClaimsByFact rank fragment f → path_number claims fragment ≡ Some rank
 
+-- and what has a rank is a claim
+abbrev pub AreClaimsIn : Names → List Fact → Type 0
+AreClaimsIn claims facts =
+    (rank : ℕ) (fragment : List ℕ) → path_number claims fragment ≡ Some rank → ClaimsFragment facts rank fragment
+
+-- by this root the rank claims a fragment that another rank claims by these facts
+pub record IsToldTwice (facts : List Fact) (root : SubtreeRoot) (rank : ℕ) (path : PathText) (first second : ℕ)
+    : Type 0 where
+  pub here : root.is_here ≡ true
+  pub fragment : List ℕ
+  pub named : fragment_of root ≡ Some fragment
+  pub first_of : ClaimsFragment facts first fragment
+  pub other : first ≢ rank
+  pub second_of : second ≡ rank
+  pub path_of : string_bytes path ≡ shown_path root.path.items
+
 -- what was gathered is what these facts say
 pub record HasTold (g : Gathering) (facts : List Fact) : Type 0 where
   pub told : AreAsTold g.tree.nodes facts
   pub heard : AreHeardAt g.tree.nodes g.hearsay.items (heard_in facts)
   pub tops : AreNumbersOf g.tree.nodes g.tops.items (tops_in facts)
   pub claims : All (IsNotedIn g.fragments) facts
+  pub only : AreClaimsIn g.fragments facts
 
 abbrev pub StillHasTold : Gathering → Gathering → Type 0
 StillHasTold old new = (facts : List Fact) → HasTold old facts → HasTold new facts

@@ -5,8 +5,9 @@ ghost use Rattle.std.specs.Prelude.{◌≡◌, ◌⊎◌, ◌++◌, ◌∷◌, [
 ghost use Rattle.std.specs.List.{IsAmong};
 ghost use Rattle.ceph_snapshot.specs.Authority.{AreClaimed, IsClaim, IsClaimedTwice, StillClaimed};
 ghost use Rattle.ceph_snapshot.specs.Authority.{PathText, fragment_of, is_user_path};
-ghost use Rattle.ceph_snapshot.specs.Facts.{Fact, StillTold, roots_in, values_in};
-ghost use Rattle.ceph_snapshot.specs.Heard.{AreHeardAt, AreNumbersOf, HasTold, HeardRank, StillHasTold};
+ghost use Rattle.ceph_snapshot.specs.Facts.{Fact, Root, StillTold, roots_in, values_in};
+ghost use Rattle.ceph_snapshot.specs.Heard.{AreHeardAt, AreNumbersOf, ClaimsByFact, HasTold, HeardRank, IsToldTwice};
+ghost use Rattle.ceph_snapshot.specs.Heard.{StillHasTold};
 ghost use Rattle.ceph_snapshot.specs.Heard.{LiesInTop, heard_in_root, top_of_path, tops_in_root};
 ghost use Rattle.ceph_snapshot.specs.Names.{path_number};
 ghost use Rattle.ceph_snapshot.specs.Sightings.{IsNumberOf, seen_in};
@@ -54,7 +55,7 @@ impl Gathering {
             alloc,
             tree: Tree::new(alloc)?,
             hearsay: Vec::new(alloc),
-            fragments: Names::new(alloc)?,
+            fragments: Names::none(alloc),
             tops: Vec::new(alloc),
             is_listed: false,
             is_numbered: false,
@@ -82,10 +83,14 @@ impl Gathering {
         ensures listed { self.new.is_listed ≡ self.old.is_listed }
         ensures numbered { self.new.is_numbered ≡ self.old.is_numbered }
         ensures twice { (path : PathText) (one two : ℕ) → IsErrOf result (SnapshotError.TwoClaims path one two)
-            → IsClaimedTwice self.new.fragments root.now rank path one two }
+            → IsClaimedTwice self.old.fragments root.now rank path one two }
         ensures claimed { OnOk result ((fragment : List ℕ) → root.now.is_here ≡ true
             → fragment_of root.now ≡ Some fragment → path_number self.new.fragments fragment ≡ Some rank) }
         ensures kept { OnOk result (StillClaimed self.old.fragments self.new.fragments) }
+        ensures only { OnOk result ((other : ℕ) (fragment : List ℕ)
+            → path_number self.new.fragments fragment ≡ Some other
+            → (path_number self.old.fragments fragment ≡ Some other)
+            ⊎ ClaimsByFact other fragment (Root rank root.now)) }
     {
         if !root.is_here {
             return Ok(());
@@ -161,8 +166,8 @@ impl Gathering {
 
     /// Adds a root that a rank knows.
     fn add_subtree(&mut self, rank: Rank, root: &SubtreeRoot) -> Result<(), SnapshotError>
-        ensures twice { (path : PathText) (one two : ℕ) → IsErrOf result (SnapshotError.TwoClaims path one two)
-            → IsClaimedTwice self.new.fragments root.now rank path one two }
+        ensures twice { (facts : List Fact) → HasTold self.old facts → (path : PathText) (one two : ℕ)
+            → IsErrOf result (SnapshotError.TwoClaims path one two) → IsToldTwice facts root.now rank path one two }
         ensures claimed { OnOk result ((fragment : List ℕ) → IsClaim root.now fragment
             → path_number self.new.fragments fragment ≡ Some rank) }
         ensures kept { OnOk result (StillClaimed self.old.fragments self.new.fragments) }
@@ -184,8 +189,9 @@ impl Gathering {
 
     /// Adds the subtrees that a rank knows, and the pins of their roots. A fragment that two ranks claim is refused.
     pub fn add_subtrees(&mut self, rank: Rank, roots: &[SubtreeRoot]) -> Result<(), SnapshotError>
-        ensures twice { (path : PathText) (one two : ℕ) → IsErrOf result (SnapshotError.TwoClaims path one two)
-            → (root : SubtreeRoot) × IsAmong roots.now root × IsClaimedTwice self.new.fragments root rank path one two }
+        ensures twice { (facts : List Fact) → HasTold self.old facts → (path : PathText) (one two : ℕ)
+            → IsErrOf result (SnapshotError.TwoClaims path one two)
+            → (root : SubtreeRoot) × IsAmong roots.now root × IsToldTwice facts root rank path one two }
         ensures claimed { OnOk result (AreClaimed self.new.fragments roots.now rank) }
         ensures kept { OnOk result (StillClaimed self.old.fragments self.new.fragments) }
         ensures seen { self.new.tree.seen ≡ self.old.tree.seen }

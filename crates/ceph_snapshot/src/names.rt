@@ -6,7 +6,8 @@ ghost use Rattle.ceph_snapshot.specs.Names.{path_number};
 use std::alloc::{AllocError, Global};
 use std::collections::HashMap;
 
-/// The number of each path that was named, parents before children; the root, whose path is empty, has number 0.
+/// The number of each path that was named. In a tree parents are named before children, and the root, whose path is
+/// empty, has number 0.
 #[derive(Drop)]
 pub struct Names {
     numbers: HashMap<Vec<u8>, u32>,
@@ -21,6 +22,15 @@ impl Names {
         let mut numbers = HashMap::new(alloc);
         numbers.insert(Vec::new(alloc), 0)?;
         Ok(Names { numbers })
+    }
+
+    /// No path, not even the root.
+    pub fn none(alloc: Global) -> Names
+        ensures { (path : List ℕ) → path_number result path ≡ None }
+    {
+        Names {
+            numbers: HashMap::new(alloc),
+        }
     }
 
     /// The number of a path, where it has one.

@@ -1,16 +1,22 @@
 -- From what is wrong with a file to why a folder is not read.
-use Rattle.std.proofs.Common.{◌≡◌, ◌∙◌, ◌&&◌, ℕ, Bool, List, Option, Result, Ok, Err, OnErr, ap, codes, false, is_some, refl, subst, sym, true}
-use Rattle.std.specs.List.{IsAmong}
+use Rattle.std.proofs.Common.{◌≡◌, ◌∙◌, ◌&&◌, ◌++◌, ◌∷◌, [], ℕ, suc, All, Bool, List, Option, Result, Ok, Err, OnErr, ap, arith, codes, false, get_or, is_some, map, refl, subst, sym, true}
+use Rattle.std.specs.List.{IsAmong, filter, range_with_len}
+use Rattle.std.proofs.lemmas.List.{get_or_default, get_or-map, length-map}
+use Rattle.std.proofs.lemmas.List.Elements.{All-append, All-filter, All-map, filter_passes}
 use Rattle.std.specs.Prelude.{string_bytes}
 use Rattle.ceph_dumps.specs.declared.listing.ListedDir.{ListedDir}
 use Rattle.ceph_dumps.specs.declared.subtrees.SubtreeRoot.{SubtreeRoot}
-use Rattle.ceph_snapshot.specs.declared.names.Names.{Names}
 use Rattle.ceph_dumps.specs.declared.dump_error.DumpError.{DumpError}
+use Rattle.ceph_snapshot.specs.declared.gathering.Gathering.{Gathering}
 use Rattle.ceph_snapshot.specs.declared.snapshot_error.SnapshotError.{SnapshotError}
 use Rattle.ceph_snapshot.specs.declared.snapshot_error.SnapshotError.TheVariants as doubt
-use Rattle.ceph_snapshot.specs.Authority.{IsClaimedTwice, PathText}
-use Rattle.mdbal_ceph.specs.Causes.{DumpFile, IsElsewhere, IsFileCause, IsFolderFault, IsGrowth, IsNamedBy, IsNeeded, IsNoBytes, IsRankIn, IsRefusedFile, IsToRead, IsTwiceClaimed, IsUnclaimedIn, IsUnread, dump_name}
-use Rattle.mdbal_ceph.specs.Dumps.{AreInodes, DumpKind, DumpValue, IsRootsFile, file_in, subtrees_file}
+use Rattle.ceph_snapshot.specs.Authority.{PathText, is_user_path}
+use Rattle.ceph_snapshot.specs.Facts.{Fact, Root, Value, roots_in}
+use Rattle.ceph_snapshot.specs.Heard.{ClaimsByFact, ClaimsFragment, IsToldTwice}
+use Rattle.mds_types.specs.RankSet.{has_rank}
+use Rattle.mdbal_ceph.specs.Collections.{Adds}
+use Rattle.mdbal_ceph.specs.Causes.{AreRanksIn, DumpFile, IsClaimOf, IsElsewhere, IsFileCause, IsFolderFault, IsGrowth, IsListedRoot, IsNamedBy, IsNeeded, IsNoBytes, IsRankIn, IsReadInto, IsRefusedFile, IsToRead, IsTwiceClaimed, IsUnclaimedIn, IsUnread, dump_name}
+use Rattle.mdbal_ceph.specs.Dumps.{AreInodes, AreRankDumps, DumpKind, DumpValue, IsRankDump, IsRootsFile, RankDump, all_seen, file_in, rank_facts, ranks_below, root_facts, subtrees_file}
 use Rattle.mdbal_ceph.specs.Folder.{Failed, FileContent, IsInFile, IsInFileIfAny, Missing}
 use Rattle.mdbal_ceph.specs.NoResults.{claim_error, doubt_error, growth_error}
 use Rattle.mdbal_ceph.specs.declared.no_result.FileFault.{FileFault}
@@ -98,23 +104,82 @@ module _ (reads : List ℕ → FileContent → Type 0) (says : List ℕ → Dump
   doubt_in doubt.TooMany elsewhere unclaimed = tt
   doubt_in (doubt.TwoClaims path one two) elsewhere unclaimed = tt
 
-  -- a claim of two ranks, by what the gathering says
-  pub twice_claimed : (rank : ℕ) (numbers : Option (List ListedDir)) (roots others : List SubtreeRoot) (claims : Names) (path : PathText) (one two : ℕ)
-      → IsInFileIfAny reads AreInodes (file_in folder (codes "inodes")) numbers → IsRankIn reads says refuses folder rank
-      → IsRootsFile reads says numbers (subtrees_file folder rank) roots → others ≡ roots
-      → ((root : SubtreeRoot) × IsAmong others root × IsClaimedTwice claims root rank path one two) → IsTwiceClaimed reads says refuses folder (string_bytes path) one two
-  twice_claimed rank numbers roots others claims path one two numbers_are there roots_are same twice =
-      let claimed = twice.2 in
+  -- a rank that claims a fragment by what was listed
+  claim_of : (numbers : Option (List ListedDir)) (facts : List Fact) (first : ℕ) (fragment : List ℕ) → All (IsListedRoot reads says refuses folder numbers) facts → ClaimsFragment facts first fragment
+      → (one : SubtreeRoot) × IsClaimOf reads says refuses folder numbers first fragment one
+  claim_of numbers facts first fragment listed claim = by claim.0 (subst (IsListedRoot reads says refuses folder numbers) (sym claim.1.1.1) (listed claim.1.0 claim.0 claim.1.1.0)) claim.2 where
+    by : (f : Fact) → IsListedRoot reads says refuses folder numbers f → ClaimsByFact first fragment f → (one : SubtreeRoot) × IsClaimOf reads says refuses folder numbers first fragment one
+    by (Root rank root) here claims = (
+      root,
       record {
-        rank = subst (IsRankIn reads says refuses folder) (sym claimed.second_of) there;
+        rank_in = subst (IsRankIn reads says refuses folder) claims.0 here.0;
+        roots = here.1;
+        roots_are = subst (λ r. IsRootsFile reads says numbers (subtrees_file folder r) here.1) claims.0 here.2;
+        among = here.3;
+        here = claims.1;
+        named = claims.2;
+      },
+    )
+    by (Value dir) here claims = absurd claims
+
+  -- a claim of two ranks, by what the gathering says
+  pub twice_claimed : (rank : ℕ) (numbers : Option (List ListedDir)) (roots others : List SubtreeRoot) (facts : List Fact) (path : PathText) (one two : ℕ)
+      → IsInFileIfAny reads AreInodes (file_in folder (codes "inodes")) numbers → All (IsListedRoot reads says refuses folder numbers) facts → IsRankIn reads says refuses folder rank
+      → IsRootsFile reads says numbers (subtrees_file folder rank) roots → others ≡ roots
+      → ((root : SubtreeRoot) × IsAmong others root × IsToldTwice facts root rank path one two) → IsTwiceClaimed reads says refuses folder (string_bytes path) one two
+  twice_claimed rank numbers roots others facts path one two numbers_are listed there roots_are same twice =
+      let told = twice.2 in
+      let first = claim_of numbers facts one told.fragment listed told.first_of in
+      record {
         numbers = numbers;
         numbers_are = numbers_are;
-        roots = roots;
-        roots_are = subst (λ r. IsRootsFile reads says numbers (subtrees_file folder r) roots) (sym claimed.second_of) roots_are;
-        root = twice.0;
-        among = subst (λ (those : List SubtreeRoot). IsAmong those twice.0) same twice.1;
-        here = claimed.here;
-        fragment = ap is_some claimed.named;
-        path_is = claimed.path_of;
-        other = λ is. claimed.other (is ∙ claimed.second_of);
+        fragment = told.fragment;
+        one = first.0;
+        first_claims = first.1;
+        two = twice.0;
+        second_claims = subst (λ r. IsClaimOf reads says refuses folder numbers r told.fragment twice.0) (sym told.second_of) (record {
+          rank_in = there;
+          roots = roots;
+          roots_are = roots_are;
+          among = subst (λ (those : List SubtreeRoot). IsAmong those twice.0) same twice.1;
+          here = told.here;
+          named = told.named;
+        });
+        path_is = told.path_of;
+        other = λ is. told.other (is ∙ told.second_of);
+      }
+
+  -- the roots that were listed in the dumps of ranks
+  listed_one : (numbers : Option (List ListedDir)) (rank : ℕ) (roots : List SubtreeRoot) → IsRankIn reads says refuses folder rank → IsRootsFile reads says numbers (subtrees_file folder rank) roots
+      → All (IsListedRoot reads says refuses folder numbers) (roots_in rank roots)
+  listed_one numbers rank roots there roots_are =
+      let P : Fact → Type 0 = IsListedRoot reads says refuses folder numbers in
+      let user : SubtreeRoot → Bool = λ root. is_user_path root.path.items in
+      All-map P (Root rank) (filter user roots)
+      (All-filter user (λ root. P (Root rank root)) roots (λ k d l. (there, roots, roots_are, (k, (l, get_or_default roots k d (get_or roots k d) l)))))
+
+  listed_all : (numbers : Option (List ListedDir)) (count : ℕ) (dumps : List RankDump) → All (λ (d : RankDump). IsRankIn reads says refuses folder d.rank) dumps
+      → All (IsRankDump reads says numbers folder count) dumps → All (IsListedRoot reads says refuses folder numbers) (root_facts dumps)
+  listed_all numbers count [] there each = λ k d l. absurd (omega (arith, l))
+  listed_all numbers count (dump ∷ dumps) there each =
+      All-append (IsListedRoot reads says refuses folder numbers) (rank_facts dump) (root_facts dumps)
+      (listed_one numbers dump.rank dump.roots (there 0 dump (omega arith)) (each 0 dump (omega arith)).roots)
+      (listed_all numbers count dumps (λ k d l. there (suc k) d (omega (arith, l))) (λ k d l. each (suc k) d (omega (arith, l))))
+
+  -- with the dumps of more ranks
+  pub read_more : (numbers : Option (List ListedDir)) (count ranks n : ℕ) (dumps : List RankDump) (old new : Gathering) → IsReadInto reads says refuses folder numbers count old
+      → AreRanksIn reads says refuses folder ranks → AreRankDumps reads says numbers folder count (ranks_below ranks n) dumps → Adds old new (all_seen dumps) (root_facts dumps)
+      → IsReadInto reads says refuses folder numbers count new
+  read_more numbers count ranks n dumps old new was there are adds =
+      let of_set : All (λ r. has_rank ranks r ≡ true) (map (λ (d : RankDump). d.rank) dumps) =
+      subst (All (λ r. has_rank ranks r ≡ true)) (sym are.these) (filter_passes (has_rank ranks) (range_with_len 0 n)) in
+      let in_set : All (λ (d : RankDump). IsRankIn reads says refuses folder d.rank) dumps =
+      λ k d l.
+      there (get_or dumps k d).rank
+      (subst (λ r. has_rank ranks r ≡ true) (get_or-map (λ (d : RankDump). d.rank) dumps k d d.rank l) (of_set k d.rank (omega (arith, l, length-map dumps (λ (d : RankDump). d.rank))))) in
+      record {
+        read = was.read;
+        facts = was.facts ++ root_facts dumps;
+        told = adds.told was.facts was.told;
+        listed = All-append (IsListedRoot reads says refuses folder numbers) was.facts (root_facts dumps) was.listed (listed_all numbers count dumps in_set are.each);
       }

@@ -1,5 +1,5 @@
 -- Why a run has no result.
-use Rattle.std.specs.Prelude.{◌≡◌, ◌≢◌, ◌⊎◌, ◌<◌, ◌≤◌, ⊤, ℕ, Bool, true, false, List, Option, Some, None, Result}
+use Rattle.std.specs.Prelude.{◌≡◌, ◌≢◌, ◌⊎◌, ◌<◌, ◌≤◌, ⊤, ℕ, All, Bool, true, false, List, Option, Some, None, Result}
 use Rattle.std.specs.Prelude.{Vec, codes, is_some, length, map, string_bytes}
 use Rattle.std.specs.Global.{Global}
 use Rattle.std.specs.List.{IsAmong}
@@ -17,9 +17,10 @@ use Rattle.ceph_dumps.specs.declared.listing.ListedDir.{ListedDir}
 use Rattle.ceph_dumps.specs.declared.subtrees.SubtreeRoot.{SubtreeRoot}
 use Rattle.ceph_snapshot.specs.Authority.{IsUnclaimed, LieAsClaimed, PathText, fragment_of}
 use Rattle.ceph_snapshot.specs.Doubts.{have_left}
-use Rattle.ceph_snapshot.specs.Facts.{AreAsTold, Fact}
-use Rattle.ceph_snapshot.specs.Heard.{AreHeardAt, heard_in}
+use Rattle.ceph_snapshot.specs.Facts.{AreAsTold, Fact, Root, Value}
+use Rattle.ceph_snapshot.specs.Heard.{AreHeardAt, HasTold, heard_in}
 use Rattle.ceph_snapshot.specs.Shown.{shown_path}
+use Rattle.ceph_snapshot.specs.declared.gathering.Gathering.{Gathering}
 use Rattle.ceph_snapshot.specs.declared.gathering.Hearsay.{Hearsay}
 use Rattle.ceph_snapshot.specs.declared.snapshot_error.SnapshotError.{SnapshotError}
 use Rattle.ceph_snapshot.specs.declared.snapshot_error.SnapshotError.TheVariants as doubt
@@ -181,18 +182,41 @@ module _ (reads : List ℕ → FileContent → Type 0) (says : List ℕ → Dump
   abbrev pub AreRanksIn : List ℕ → ℕ → Type 0
   AreRanksIn folder ranks = (rank : ℕ) → has_rank ranks rank ≡ true → IsRankIn folder rank
 
-  -- by a root in its dump the second rank claims a fragment of this directory, which is not the first rank
-  pub record IsTwiceClaimed (folder path : List ℕ) (first second : ℕ) : Type 0 where
-    pub rank : IsRankIn folder second
-    pub numbers : Option (List ListedDir)
-    pub numbers_are : IsInFileIfAny reads AreInodes (file_in folder (codes "inodes")) numbers
+  -- a rank of the file system lists this root in its dump
+  abbrev pub IsListedRoot : List ℕ → Option (List ListedDir) → Fact → Type 0
+  IsListedRoot folder numbers (Root rank root) =
+      IsRankIn folder rank × (roots : List SubtreeRoot)
+      × IsRootsFile reads says numbers (subtrees_file folder rank) roots × IsAmong roots root
+  IsListedRoot folder numbers (Value dir) = ⊥
+
+  -- a folder is read so, and what was gathered so far is what ranks list
+  pub record IsReadInto (folder : List ℕ) (numbers : Option (List ListedDir)) (count : ℕ) (gathering : Gathering)
+      : Type 0 where
+    pub read : IsReadWith folder numbers count
+    pub facts : List Fact
+    pub told : HasTold gathering facts
+    pub listed : All (IsListedRoot folder numbers) facts
+
+  -- by this root in its dump a rank claims a fragment of a directory
+  pub record IsClaimOf (folder : List ℕ) (numbers : Option (List ListedDir)) (rank : ℕ) (fragment : List ℕ)
+      (root : SubtreeRoot) : Type 0 where
+    pub rank_in : IsRankIn folder rank
     pub roots : List SubtreeRoot
-    pub roots_are : IsRootsFile reads says numbers (subtrees_file folder second) roots
-    pub root : SubtreeRoot
+    pub roots_are : IsRootsFile reads says numbers (subtrees_file folder rank) roots
     pub among : IsAmong roots root
     pub here : root.is_here ≡ true
-    pub fragment : is_some (fragment_of root) ≡ true
-    pub path_is : path ≡ shown_path root.path.items
+    pub named : fragment_of root ≡ Some fragment
+
+  -- two ranks claim one fragment of a directory, each in its own dump; in that of the second it has this path
+  pub record IsTwiceClaimed (folder path : List ℕ) (first second : ℕ) : Type 0 where
+    pub numbers : Option (List ListedDir)
+    pub numbers_are : IsInFileIfAny reads AreInodes (file_in folder (codes "inodes")) numbers
+    pub fragment : List ℕ
+    pub one : SubtreeRoot
+    pub first_claims : IsClaimOf folder numbers first fragment one
+    pub two : SubtreeRoot
+    pub second_claims : IsClaimOf folder numbers second fragment two
+    pub path_is : path ≡ shown_path two.path.items
     pub other : first ≢ second
 
   -- what the dumps say of directories: those of the ranks, or all of them

@@ -13,6 +13,7 @@ use Rattle.mdbal_ceph.specs.declared.settings.PlanSettings.{PlanSettings}
 use Rattle.mdbal_ceph.specs.declared.settings.Refused.{Refused}
 use Rattle.mdbal_ceph.specs.declared.settings.Refused.TheVariants.{Value, Words}
 use Rattle.mdbal_ceph.specs.Options.{AreRead, FitTogether}
+use Rattle.mdbal_ceph.specs.RightValues.{AreNoneRight, AreRight}
 
 -- `DIR ..`, of which one at least has to be there
 abbrev pub folder_rule : Rule
@@ -60,15 +61,17 @@ plan_command = let app = new_app (codes "mdbal_ceph") in record app { top = reco
 abbrev pub mdbal_ceph : App
 mdbal_ceph = fold with_rule (with_rule plan_command folder_rule) option_rules
 
--- the settings are those of the words of the command line, and fit together
+-- the settings are those of the words of the command line, each value is one that its option takes, and they fit
+-- together
 abbrev pub AreSettings : List Text → PlanSettings → Type 0
-AreSettings words settings = AreRead (matches_of mdbal_ceph words) settings × FitTogether settings
+AreSettings words settings =
+    AreRead (matches_of mdbal_ceph words) settings × FitTogether settings × AreRight (matches_of mdbal_ceph words)
 
 -- why the words give no settings: `clap` refuses them, or they ask for the help or the version; or `clap` takes them,
--- and the value of an option has another form
+-- and the value of an option is none that it takes, or they don't fit together
 abbrev pub GivesNoSettings : List Text → Refused → Type 0
 GivesNoSettings words (Words error) = Explains (fault_of mdbal_ceph words) error
-GivesNoSettings words (Value option) = fault_of mdbal_ceph words ≡ []
+GivesNoSettings words (Value option) = (fault_of mdbal_ceph words ≡ []) × AreNoneRight (matches_of mdbal_ceph words)
 
 -- the status then: 0 where the help or the version was written, 1 where it could not be, and otherwise 2
 abbrev pub AnswersAs : OptionsError → ℕ → Type 0

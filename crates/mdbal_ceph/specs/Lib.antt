@@ -15,5 +15,6 @@ pub mod Outcomes
 pub mod OwnListPins
 pub mod Past
 pub mod PlanChecks
+pub mod RightValues
 pub mod Usable
 pub mod Writing

@@ -12,7 +12,7 @@ ghost use Rattle.ceph_snapshot.specs.Sightings.{PathHeat, seen_in};
 ghost use Rattle.ceph_snapshot.specs.Snapshots.{IsSnapshot};
 ghost use Rattle.mds_types.specs.declared.limits.TheConstants.{RANK_LIMIT};
 ghost use Rattle.mdbal_ceph.specs.Causes.{AreRanksIn, IsCollectFault, IsFolderFault, IsGrowth, IsListedFault};
-ghost use Rattle.mdbal_ceph.specs.Causes.{IsRankIn, IsReadWith, IsSampleIn};
+ghost use Rattle.mdbal_ceph.specs.Causes.{IsRankIn, IsReadInto, IsReadWith, IsSampleIn};
 ghost use Rattle.mdbal_ceph.specs.Collections.{Adds, AreLeftOf, HasOurPins, IsCollected, HasGathered, IsOfRanks};
 ghost use Rattle.mdbal_ceph.specs.Collections.{IsOwnOf, pins_listed};
 ghost use Rattle.mdbal_ceph.specs.Dumps.{AreInodes, AreRankDumps, IsLoadsFile, IsRankDump, IsRootsFile, IsSampleCount};
@@ -89,8 +89,8 @@ fn add_subtrees<F: Folder, D: DumpReader, P: Progress>(
     ensures added { OnOk result ((roots : List SubtreeRoot) × IsRootsFile (F.reads source.now.files.now) D.says
         source.now.mounted (subtrees_file source.now.folder.now rank) roots
         × Adds gathering.old gathering.new [] (roots_in rank roots)) }
-    ensures failed { IsReadWith (F.reads source.now.files.now) D.says D.refuses source.now.folder.now
-        source.now.mounted source.now.samples
+    ensures failed { IsReadInto (F.reads source.now.files.now) D.says D.refuses source.now.folder.now
+        source.now.mounted source.now.samples gathering.old
         → IsRankIn (F.reads source.now.files.now) D.says D.refuses source.now.folder.now rank
         → IfErr result (IsFolderFault (F.reads source.now.files.now) D.says D.refuses
         source.now.folder.now) }
@@ -133,8 +133,8 @@ fn add_rank<F: Folder, D: DumpReader, P: Progress>(
         × IsRankDump (F.reads source.now.files.now) D.says
         source.now.mounted source.now.folder.now source.now.samples dump
         × Adds gathering.old gathering.new (rank_seen dump) (rank_facts dump)) }
-    ensures failed { IsReadWith (F.reads source.now.files.now) D.says D.refuses source.now.folder.now
-        source.now.mounted source.now.samples
+    ensures failed { IsReadInto (F.reads source.now.files.now) D.says D.refuses source.now.folder.now
+        source.now.mounted source.now.samples gathering.old
         → IsRankIn (F.reads source.now.files.now) D.says D.refuses source.now.folder.now rank
         → IfErr result (IsFolderFault (F.reads source.now.files.now) D.says D.refuses
         source.now.folder.now) }
@@ -157,8 +157,8 @@ fn add_rank_if_in<F: Folder, D: DumpReader, P: Progress>(
     ensures added { OnOk result ((dumps : List RankDump) × AreRankDumps (F.reads source.now.files.now) D.says
         source.now.mounted source.now.folder.now source.now.samples (ranks_if ranks number) dumps
         × Adds gathering.old gathering.new (all_seen dumps) (root_facts dumps)) }
-    ensures failed { IsReadWith (F.reads source.now.files.now) D.says D.refuses source.now.folder.now
-        source.now.mounted source.now.samples
+    ensures failed { IsReadInto (F.reads source.now.files.now) D.says D.refuses source.now.folder.now
+        source.now.mounted source.now.samples gathering.old
         → AreRanksIn (F.reads source.now.files.now) D.says D.refuses source.now.folder.now ranks
         → IfErr result (IsFolderFault (F.reads source.now.files.now) D.says D.refuses
         source.now.folder.now) }
@@ -182,8 +182,8 @@ fn add_ranks<F: Folder, D: DumpReader, P: Progress>(
     ensures added { OnOk result ((dumps : List RankDump) × AreRankDumps (F.reads source.now.files.now) D.says
         source.now.mounted source.now.folder.now source.now.samples (ranks_below ranks RANK_LIMIT) dumps
         × Adds gathering.old gathering.new (all_seen dumps) (root_facts dumps)) }
-    ensures failed { IsReadWith (F.reads source.now.files.now) D.says D.refuses source.now.folder.now
-        source.now.mounted source.now.samples
+    ensures failed { IsReadInto (F.reads source.now.files.now) D.says D.refuses source.now.folder.now
+        source.now.mounted source.now.samples gathering.old
         → AreRanksIn (F.reads source.now.files.now) D.says D.refuses source.now.folder.now ranks
         → IfErr result (IsFolderFault (F.reads source.now.files.now) D.says D.refuses
         source.now.folder.now) }

@@ -1,5 +1,5 @@
 //! What the words of the command line ask for.
-ghost use Rattle.std.specs.Prelude.{◌≡◌, ◌&&◌, ◌||◌, [], IfErr, IfOk, false, is_some, length, map, nat_lt};
+ghost use Rattle.std.specs.Prelude.{◌≡◌, ◌&&◌, ◌||◌, [], IfErr, IfOk, codes, false, is_some, length, map, nat_lt};
 ghost use Rattle.clap.specs.Words.{app_of, fault_of, first_of, found_of, matches_of, rows_of, rule_of, with_rule};
 ghost use Rattle.command_line.specs.Outcome.{Explains};
 ghost use Rattle.mdbal_ceph.specs.CommandLine.{AreSettings, EndsAs, GivesNoSettings, folder_rule, mdbal_ceph};
@@ -7,7 +7,9 @@ ghost use Rattle.mdbal_ceph.specs.CommandLine.{option_rule};
 ghost use Rattle.mdbal_ceph.specs.Exit.{IsRefusalSaid};
 ghost use Rattle.mdbal_ceph.specs.CommandLine.{option_rules, plan_command, with_options};
 ghost use Rattle.mdbal_ceph.specs.Options.{AreRead, FitTogether, IsFlag, IsPastNamed, folders_named, least_named};
-ghost use Rattle.mdbal_ceph.specs.Options.{value_or};
+ghost use Rattle.mdbal_ceph.specs.Options.{parts_named, value_or};
+ghost use Rattle.mdbal_ceph.specs.RightValues.{AreNoneRight, AreRight, ArePartsNamed, IsAbsolute, IsLeastRight};
+ghost use Rattle.mdbal_ceph.specs.RightValues.{IsPastRight};
 
 use crate::answers::answer;
 use crate::matched::{folders_of, has_flag, value_of, value_or};
@@ -344,7 +346,9 @@ fn command<'a>(alloc: Global) -> Result<Command<'a>, AllocError>
 
 /// What a plan has to come to.
 fn least_of(matches: &ArgMatches<'_>) -> Result<Least, &'static str>
-    ensures { IfOk result (λ least. least ≡ least_named (rows_of (found_of matches.now))) }
+    ensures least { IfOk result (λ least. least ≡ least_named (rows_of (found_of matches.now))) }
+    ensures right { IfOk result (λ _. IsLeastRight (rows_of (found_of matches.now))) }
+    ensures wrong { IfErr result (λ _. IsLeastRight (rows_of (found_of matches.now)) → ⊥) }
 {
     Ok(Least {
         heat: heat_if_any(
@@ -367,8 +371,12 @@ fn hours_asked<'a>(
     matches: &ArgMatches<'a>,
     folders: Vec<&'a str>,
 ) -> Result<(&'a str, HoursAsked<'a>), &'static str>
-    ensures { map (λ text. text.now) folders.entry.items ≡ folders_named (rows_of (found_of matches.now))
+    ensures past { map (λ text. text.now) folders.entry.items ≡ folders_named (rows_of (found_of matches.now))
         → IfOk result (λ asked. IsPastNamed (rows_of (found_of matches.now)) asked.0.now asked.1) }
+    ensures right { map (λ text. text.now) folders.entry.items ≡ folders_named (rows_of (found_of matches.now))
+        → IfOk result (λ _. IsPastRight (rows_of (found_of matches.now))) }
+    ensures wrong { map (λ text. text.now) folders.entry.items ≡ folders_named (rows_of (found_of matches.now))
+        → IfErr result (λ _. IsPastRight (rows_of (found_of matches.now)) → ⊥) }
 {
     let mut earlier = folders;
     let Some(folder) = earlier.pop() else {
@@ -393,34 +401,68 @@ fn has_needless_past(settings: &PlanSettings) -> bool
     (settings.check.is_some() || settings.paths0) && !settings.past.earlier.is_empty()
 }
 
+/// Into how many parts the directories are divided.
+fn parts_asked(matches: &ArgMatches<'_>) -> Result<PartCount, &'static str>
+    ensures parts { IfOk result (λ parts. parts
+        ≡ parts_named (value_or (rows_of (found_of matches.now)) (codes "parts") (codes "auto"))
+        (value_or (rows_of (found_of matches.now)) (codes "most-pins") (codes "10000"))) }
+    ensures right { IfOk result (λ _. ArePartsNamed
+        (value_or (rows_of (found_of matches.now)) (codes "parts") (codes "auto"))
+        (value_or (rows_of (found_of matches.now)) (codes "most-pins") (codes "10000"))) }
+    ensures wrong { IfErr result (λ _. ArePartsNamed
+        (value_or (rows_of (found_of matches.now)) (codes "parts") (codes "auto"))
+        (value_or (rows_of (found_of matches.now)) (codes "most-pins") (codes "10000")) → ⊥) }
+{
+    let most = value_or(matches, "most-pins", "10000");
+    parts_of(value_or(matches, "parts", "auto"), most)
+}
+
+/// Where the file system is mounted.
+fn mount_asked<'a>(matches: &ArgMatches<'a>) -> Result<&'a str, &'static str>
+    ensures mount { IfOk result (λ mount. mount.now
+        ≡ value_or (rows_of (found_of matches.now)) (codes "mount") (codes "/mnt/cephfs")) }
+    ensures right { IfOk result (λ _. IsAbsolute
+        (value_or (rows_of (found_of matches.now)) (codes "mount") (codes "/mnt/cephfs"))) }
+    ensures wrong { IfErr result (λ _. IsAbsolute
+        (value_or (rows_of (found_of matches.now)) (codes "mount") (codes "/mnt/cephfs")) → ⊥) }
+{
+    mount_of(value_or(matches, "mount", "/mnt/cephfs"))
+}
+
 /// The settings that were found, where the words name these folders.
 fn found<'a>(
     matches: &ArgMatches<'a>,
     folders: Vec<&'a str>,
 ) -> Result<PlanSettings<'a>, &'static str>
-    ensures { map (λ text. text.now) folders.entry.items ≡ folders_named (rows_of (found_of matches.now))
+    ensures read { map (λ text. text.now) folders.entry.items ≡ folders_named (rows_of (found_of matches.now))
         → IfOk result (AreRead (rows_of (found_of matches.now))) }
+    ensures right { map (λ text. text.now) folders.entry.items ≡ folders_named (rows_of (found_of matches.now))
+        → IfOk result (λ _. AreRight (rows_of (found_of matches.now))) }
+    ensures wrong { map (λ text. text.now) folders.entry.items ≡ folders_named (rows_of (found_of matches.now))
+        → IfErr result (λ _. AreRight (rows_of (found_of matches.now)) → ⊥) }
 {
     let mask = mask_of(value_of(matches, "mask"))?;
-    let most = value_or(matches, "most-pins", "10000");
-    let parts = parts_of(value_or(matches, "parts", "auto"), most)?;
+    let parts = parts_asked(matches)?;
     let keep = percent_of(
         value_or(matches, "keep", "5"),
         "--keep takes a whole number from 0 to 255, without a percent sign",
     )?;
     let (folder, past) = hours_asked(matches, folders)?;
+    let most_inodes = inodes_if_any(value_of(matches, "most-inodes"))?;
+    let least = least_of(matches)?;
+    let mount = mount_asked(matches)?;
     Ok(PlanSettings {
         folder,
         past,
         parts,
         keep,
-        most_inodes: inodes_if_any(value_of(matches, "most-inodes"))?,
+        most_inodes,
         leave: value_of(matches, "leave"),
         mask,
         own: value_of(matches, "own"),
         check: value_of(matches, "check"),
-        least: least_of(matches)?,
-        mount: mount_of(value_or(matches, "mount", "/mnt/cephfs"))?,
+        least,
+        mount,
         pins: value_of(matches, "pins"),
         subvolumes: has_flag(matches, "subvolumes"),
         record_to: value_of(matches, "record"),
@@ -436,8 +478,12 @@ fn fitting<'a>(
     matches: &ArgMatches<'a>,
     folders: Vec<&'a str>,
 ) -> Result<PlanSettings<'a>, &'static str>
-    ensures { map (λ text. text.now) folders.entry.items ≡ folders_named (rows_of (found_of matches.now))
+    ensures settings { map (λ text. text.now) folders.entry.items ≡ folders_named (rows_of (found_of matches.now))
         → IfOk result (λ settings. AreRead (rows_of (found_of matches.now)) settings × FitTogether settings) }
+    ensures right { map (λ text. text.now) folders.entry.items ≡ folders_named (rows_of (found_of matches.now))
+        → IfOk result (λ _. AreRight (rows_of (found_of matches.now))) }
+    ensures wrong { map (λ text. text.now) folders.entry.items ≡ folders_named (rows_of (found_of matches.now))
+        → IfErr result (λ _. AreNoneRight (rows_of (found_of matches.now))) }
 {
     let settings = found(matches, folders)?;
     if has_needless_past(&settings) {

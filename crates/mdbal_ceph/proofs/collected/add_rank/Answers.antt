@@ -54,7 +54,7 @@ returns-in_err-add_loads-clause-failed g c = λ read rank.
     let e = err_from_is_err_and c.from_residual-in_err-add_loads.result c.from_residual-in_err-add_loads.ensures.1 in
     rw (e.1, e.2) (c.in_err-add_loads.ensures.failed rank (
       c.args.source.now.samples,
-      read.count_is,
+      read.read.count_is,
       (let one : 1 ≤ c.loop-sample.sample + 1 = omega arith in one),
       (let few : c.loop-sample.sample + 1 ≤ c.args.source.now.samples = omega (arith, c.loop-sample-test.true) in few),
     ))

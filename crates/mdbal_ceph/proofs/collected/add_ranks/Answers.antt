@@ -1,6 +1,7 @@
 use Rattle.std.proofs.Common.{◌≡◌, ◌++◌, ℕ, List, arith, subst, sym}
 use Rattle.mds_types.specs.declared.limits.TheConstants.{RANK_LIMIT}
 use Rattle.mdbal_ceph.specs.Dumps.{AreRankDumps, RankDump, ranks_below, ranks_if}
+use Rattle.mdbal_ceph.proofs.Faults.{read_more}
 use Rattle.mdbal_ceph.proofs.Gathered.{adds_dumps, dumps_both, ranks_more}
 use Rattle.std.proofs.lemmas.Result.{err_from_is_err_and}
 use Rattle.mdbal_ceph.proofs.collected.add_ranks.Goals as goal
@@ -32,4 +33,8 @@ returns-clause-added g c =
 pub returns-in_err-add_rank_if_in-clause-failed : goal.returns-in_err-add_rank_if_in-clause-failed
 returns-in_err-add_rank_if_in-clause-failed g c = λ read ranks.
     let e = err_from_is_err_and c.from_residual.result c.from_residual.ensures.1 in
-    rw (e.1, e.2) (c.in_err-add_rank_if_in.ensures.failed read ranks)
+    let was = c.loop-number.invariant in
+    let more =
+    read_more (g.F.Folder.reads c.args.source.now.files.now) g.D.DumpReader.says g.D.DumpReader.refuses c.args.source.now.folder.now c.args.source.now.mounted c.args.source.now.samples c.args.ranks c.loop-number.number was.0
+    c.args.gathering.now c.loop-number.gathering read ranks was.1 was.2 in
+    rw (e.1, e.2) (c.in_err-add_rank_if_in.ensures.failed more ranks)

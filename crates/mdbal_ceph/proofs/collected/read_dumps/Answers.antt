@@ -1,3 +1,4 @@
+use Rattle.std.proofs.Common.{[], arith}
 use Rattle.mdbal_ceph.specs.Dumps.{all_seen, root_facts}
 use Rattle.mdbal_ceph.proofs.Gathered.{gathered}
 use Rattle.std.proofs.lemmas.Result.{err_from_is_err_and}
@@ -18,4 +19,5 @@ returns-in_err-gathering-clause-failed g c = λ read ranks.
 pub returns-in_err-add_ranks-clause-failed : goal.returns-in_err-add_ranks-clause-failed
 returns-in_err-add_ranks-clause-failed g c = λ read ranks.
     let e = err_from_is_err_and c.from_residual-in_err-add_ranks.result c.from_residual-in_err-add_ranks.ensures.1 in
-    rw (e.1, e.2) (c.in_err-add_ranks.ensures.failed read ranks)
+    rw (e.1, e.2)
+    (c.in_err-add_ranks.ensures.failed (record { read = read; facts = []; told = c.in_ok-gathering.ensures.told; listed = λ k d l. absurd (omega (arith, l)) }) ranks)

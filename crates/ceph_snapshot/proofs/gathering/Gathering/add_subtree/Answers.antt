@@ -1,4 +1,4 @@
-use Rattle.std.proofs.Common.{rules, ◌≡◌, ◌∙◌, ◌++◌, ◌∷◌, [], ℕ, All, IsErrOf, List, Some, true, false, ap, append-nil, refl, subst, sym}
+use Rattle.std.proofs.Common.{rules, ◌≡◌, ◌∙◌, ◌++◌, ◌∷◌, [], ℕ, All, IsErrOf, List, Some, true, false, ap, append-nil, refl, subst, sym, ⊎_elim}
 use Rattle.std.proofs.lemmas.List.Elements.{All-append}
 use Rattle.ceph_snapshot.specs.declared.gathering.Gathering.{Gathering}
 use Rattle.ceph_snapshot.specs.declared.names.Names.{Names}
@@ -6,9 +6,9 @@ use Rattle.ceph_snapshot.specs.declared.snapshot_error.SnapshotError.TheVariants
 use Rattle.ceph_snapshot.specs.declared.tree.Node.{Node}
 use Rattle.ceph_snapshot.specs.Authority.{is_user_path}
 use Rattle.ceph_snapshot.specs.Facts.{Fact, KeepNumbers, Root, StillTold}
-use Rattle.ceph_snapshot.specs.Heard.{AreHeardAt, AreNumbersOf, IsNotedIn, heard_in, heard_in_fact, heard_in_root, tops_in, tops_in_fact, tops_in_root}
+use Rattle.ceph_snapshot.specs.Heard.{AreClaimsIn, AreHeardAt, AreNumbersOf, IsNotedIn, heard_in, heard_in_fact, heard_in_root, tops_in, tops_in_fact, tops_in_root}
 use Rattle.ceph_snapshot.specs.Sightings.{IsNumberOf, TreeData}
-use Rattle.ceph_snapshot.proofs.Heard.{all_single, claims_kept, heard_kept, heard_same, numbers_kept_of, numbers_same_of, piece, still_has}
+use Rattle.ceph_snapshot.proofs.Heard.{all_single, claims_kept, claims_last, claims_more, heard_kept, heard_same, numbers_kept_of, numbers_same_of, piece, still_has}
 use Rattle.ceph_snapshot.proofs.gathering.Gathering.add_subtree.Goals as goal
 
 pub returns-in_default-clause-told : goal.returns-in_default-clause-told
@@ -33,9 +33,18 @@ add_root-requires c =
     c.in_ok-hold_top.ensures.told.numbers path c.in-Some.directory (subst (λ (t : TreeData). IsNumberOf t.nodes path c.in-Some.directory) (sym same) number)
 
 pub returns-in_err-claim-clause-twice : goal.returns-in_err-claim-clause-twice
-returns-in_err-claim-clause-twice c = λ path one two is.
+returns-in_err-claim-clause-twice c = λ facts before path one two is.
     let twice : IsErrOf c.claim.result (TwoClaims path one two) = search rules in
-    c.claim.ensures.twice path one two twice
+    let claimed = c.claim.ensures.twice path one two twice in
+    record {
+      here = claimed.here;
+      fragment = claimed.fragment;
+      named = claimed.named;
+      first_of = before.only one claimed.fragment claimed.first_of;
+      other = claimed.other;
+      second_of = claimed.second_of;
+      path_of = claimed.path_of;
+    }
 
 pub returns-clause-told : goal.returns-clause-told
 returns-clause-told c = λ facts before.
@@ -68,9 +77,12 @@ returns-clause-told c = λ facts before.
     let claims : All (IsNotedIn names) (facts ++ f ∷ []) =
     All-append (IsNotedIn names) facts (f ∷ []) (claims_kept c.args.self.now.fragments names facts c.in_ok-claim.ensures.kept before.claims)
     (all_single (IsNotedIn names) f (λ rank fragment claim. c.in_ok-claim.ensures.claimed fragment claim.1 claim.2 ∙ ap (λ (n : ℕ). Some n) claim.0)) in
+    let only : AreClaimsIn names (facts ++ f ∷ []) = λ who fragment is.
+    ⊎_elim (λ was. claims_more facts (f ∷ []) who fragment (before.only who fragment was)) (λ by. claims_last facts f who fragment by) (c.in_ok-claim.ensures.only who fragment is) in
     rw user (record {
       told = c.add_root.ensures.told facts (second.told facts (first.told facts before.told));
       heard = subst (AreHeardAt n3 c.hold_top.new.self.hearsay.items) (sym (piece heard_in_fact facts f)) told3;
       tops = subst (AreNumbersOf n3 c.hold_top.new.self.tops.items) (sym (piece tops_in_fact facts f)) tops3;
       claims = subst (λ (those : Names). All (IsNotedIn those) (facts ++ f ∷ [])) (sym (c.hold_top.ensures.claims ∙ c.hear.ensures.claims)) claims;
+      only = subst (λ (those : Names). AreClaimsIn those (facts ++ f ∷ [])) (sym (c.hold_top.ensures.claims ∙ c.hear.ensures.claims)) only;
     })

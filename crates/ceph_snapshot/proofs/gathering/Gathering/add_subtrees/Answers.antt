@@ -6,14 +6,30 @@ use Rattle.ceph_snapshot.specs.Authority.{IsClaim, is_user_path}
 use Rattle.ceph_snapshot.specs.Facts.{Fact, Root, roots_in}
 use Rattle.ceph_snapshot.specs.Heard.{HasTold}
 use Rattle.ceph_snapshot.specs.declared.snapshot_error.SnapshotError.TheVariants.{TwoClaims}
+use Rattle.ceph_snapshot.proofs.Heard.{claims_before}
 use Rattle.ceph_snapshot.proofs.Told.{filtered_more}
 use Rattle.ceph_snapshot.proofs.gathering.Gathering.add_subtrees.Goals as goal
 
 pub returns-in_err-add_subtree-clause-twice : goal.returns-in_err-add_subtree-clause-twice
-returns-in_err-add_subtree-clause-twice c = λ path first second is.
+returns-in_err-add_subtree-clause-twice c = λ facts before path first second is.
+    let roots : List SubtreeRoot = c.args.roots.now in
+    let at : ℕ = c.loop-root.root-index in
+    let so_far : List SubtreeRoot = take at roots in
     let twice : IsErrOf c.add_subtree.result (TwoClaims path first second) = search rules in
-    let inside : c.loop-root.root-index < length c.args.roots.now = omega (arith, c.loop-root-test.true) in
-    (c.root-item.result, (c.loop-root.root-index, (inside, c.root-item.is)), c.add_subtree.ensures.twice path first second twice)
+    let inside : at < length roots = omega (arith, c.loop-root-test.true) in
+    let told = c.add_subtree.ensures.twice (facts ++ roots_in c.args.rank so_far) (c.loop-root.invariant.told facts before) path first second twice in (
+      c.root-item.result,
+      (at, (inside, c.root-item.is)),
+      record {
+        here = told.here;
+        fragment = told.fragment;
+        named = told.named;
+        first_of = claims_before facts c.args.rank so_far first told.fragment told.other told.first_of;
+        other = told.other;
+        second_of = told.second_of;
+        path_of = told.path_of;
+      },
+    )
 
 pub loop-root-preserved : goal.loop-root-preserved
 loop-root-preserved c =

@@ -13,4 +13,4 @@ returns-clause-told c = λ facts before.
     let user : is_user_path c.args.listed.now.path.items ≡ true = search rules in
     let all = told_value c.args.self.now c.add_value.new.self.nodes facts c.args.listed.now (c.add_value.ensures.told facts (c.in_ok-number.ensures.kept.told facts before.told))
     (λ path i h. c.add_value.ensures.numbers path i (c.in_ok-number.ensures.kept.numbers path i h)) before in
-    rw user (record { told = all.0; heard = all.1; tops = all.2; claims = all.3 })
+    rw user (record { told = all.0; heard = all.1; tops = all.2; claims = all.3; only = all.4 })

@@ -2,4 +2,4 @@ use Rattle.ceph_snapshot.proofs.Heard.{told_nothing}
 use Rattle.ceph_snapshot.proofs.gathering.Gathering.new.Goals as goal
 
 pub returns-clause-told : goal.returns-clause-told
-returns-clause-told c = told_nothing _ c.in_ok-new.ensures.told c.new-2.ensures.items c.new-4.ensures.items
+returns-clause-told c = told_nothing _ c.in_ok-new.ensures.told c.new-2.ensures.items c.new-3.ensures.items c.none.ensures
