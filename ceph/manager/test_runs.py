@@ -301,6 +301,18 @@ class Rounds(OnSample):
         self.assertFalse(self.manager().records["lab"].state.on)
         self.assertNotEqual(self.pins(), {})
 
+    def test_round_leaves_alone_what_still_moves(self) -> None:
+        self.do("on")
+        self.do("round")
+        self.cluster.moved.pop(self.cluster.sets[0][0])
+        self.cluster.sets.clear()
+        self.assertRegex(self.do("round"), r"^round: no pin is changed while directories of the last run move: \d+ of \d+ pins hold")
+        self.assertEqual(self.cluster.sets, [])
+        self.assertIn("MDBAL_NOT_HELD", self.module.health)
+        self.assertIn('mdbal_round_status{fs="lab"} 3', self.module.metrics()[1])
+        self.record().state.time -= 2 * int(self.module.options["wait"]) + 1
+        self.assertNotIn("last run", self.do("round"))
+
     def test_round_that_may_not_begin(self) -> None:
         self.do("on")
         self.automate(True)()

@@ -249,7 +249,15 @@ class Work:
         said = self.plan()
         planned = self.record.planned
         assert planned
+        if self.is_moving():
+            return 'no pin is changed while directories of the last run move: {}'.format(self.record.held)
         return self.apply(planned.plan.id) if planned.plan.is_proposed else said
+
+    def is_moving(self) -> bool:
+        """Whether pins of the last run may still come to hold. A plan takes a directory to be where it lies, so it could take
+        back what is under way. After twice the time that a batch may take, what does not hold is planned for as it lies."""
+        state, longest = self.record.state, 2 * float(self.mgr.get_module_option('wait'))
+        return bool(self.record.not_held) and state.ended == 'done' and time.time() < state.time + longest
 
 
 class Run:
