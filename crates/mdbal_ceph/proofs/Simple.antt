@@ -12,7 +12,7 @@ use Rattle.command_line.specs.declared.options_error.OptionsError.{OptionsError}
 use Rattle.command_line.specs.declared.options_error.OptionsError.TheVariants.{Help, Memory, Refused, Version}
 use Rattle.clap.proofs.OnLiterals.{clap_on_literals}
 use Rattle.mdbal_ceph.specs.CommandLine.{mdbal_ceph, option_rule, with_options}
-use Rattle.mdbal_ceph.specs.declared.settings.PlanOption.{PlanOption}
+use Rattle.mdbal_ceph.specs.declared.arguments.PlanOption.{PlanOption}
 
 pub is_simple_line : is_simple mdbal_ceph ≡ true
 unfolding clap_on_literals

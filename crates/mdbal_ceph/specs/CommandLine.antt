@@ -8,7 +8,7 @@ use Rattle.clap.specs.declared.builder.action.ArgAction.TheVariants.{Append, Set
 use Rattle.command_line.specs.Outcome.{Explains}
 use Rattle.command_line.specs.declared.options_error.OptionsError.{OptionsError}
 use Rattle.command_line.specs.declared.options_error.OptionsError.TheVariants.{Help, Memory, Refused as Denied, Version}
-use Rattle.mdbal_ceph.specs.declared.settings.PlanOption.{PlanOption}
+use Rattle.mdbal_ceph.specs.declared.arguments.PlanOption.{PlanOption}
 use Rattle.mdbal_ceph.specs.declared.settings.PlanSettings.{PlanSettings}
 use Rattle.mdbal_ceph.specs.declared.settings.Refused.{Refused}
 use Rattle.mdbal_ceph.specs.declared.settings.Refused.TheVariants.{Value, Words}

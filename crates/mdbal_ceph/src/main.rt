@@ -3,6 +3,7 @@
 #![tactic(auto)]
 
 mod answers;
+mod arguments;
 mod collected;
 mod comparing;
 mod driver_plan;

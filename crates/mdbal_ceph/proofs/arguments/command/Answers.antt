@@ -4,7 +4,7 @@ use Rattle.std.proofs.lemmas.List.Folds.{fold-map}
 use Rattle.std.proofs.lemmas.Result.{IfOk-weaker}
 use Rattle.clap.specs.Words.{App, Rule, app_of, with_rule}
 use Rattle.mdbal_ceph.specs.CommandLine.{folder_rule, option_rule, option_rules, plan_command}
-use Rattle.mdbal_ceph.proofs.settings.command.Goals as goal
+use Rattle.mdbal_ceph.proofs.arguments.command.Goals as goal
 
 pub returns : goal.returns
 returns c =

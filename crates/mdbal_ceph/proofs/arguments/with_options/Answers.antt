@@ -1,8 +1,8 @@
 use Rattle.std.proofs.Common.{◌<◌, List, arith, length}
 use Rattle.clap.specs.Words.{app_of}
-use Rattle.mdbal_ceph.specs.declared.settings.PlanOption.{PlanOption}
+use Rattle.mdbal_ceph.specs.declared.arguments.PlanOption.{PlanOption}
 use Rattle.mdbal_ceph.proofs.Simple.{one_more}
-use Rattle.mdbal_ceph.proofs.settings.with_options.Goals as goal
+use Rattle.mdbal_ceph.proofs.arguments.with_options.Goals as goal
 
 pub loop-at-preserved : goal.loop-at-preserved
 loop-at-preserved c =
