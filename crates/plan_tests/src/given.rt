@@ -71,6 +71,15 @@ pub fn chain(rt: &impl Abort, alloc: Global, count: u32) -> Vec<ProblemRow> {
     rows
 }
 
+/// A chain of twice as many rows, cold but for those before and after the row `half`. The search cuts at that row.
+pub fn two_hot(rt: &impl Abort, alloc: Global, half: u32) -> Vec<ProblemRow> {
+    let mut rows = chain(rt, alloc, half.saturating_mul(2));
+    for (i, row) in rows.iter_mut().enumerate() {
+        row.heat = u64::from(i.abs_diff(half as usize) == 1);
+    }
+    rows
+}
+
 /// Random rows with heats below a limit.
 pub fn random_rows(
     rt: &impl Abort,

@@ -1,9 +1,9 @@
-//! What the checker passes is best, by trial of all divisions and placings.
+//! What the checker passes is best, by trial of all divisions and placings; and what first plans move.
 //!
-//! Each call that takes memory is made again where a growth was refused, so the test holds with any one
+//! Each call that takes memory is made again where a growth was refused, so the tests hold with any one
 //! growth refused.
 
-use crate::given::{over, random_rows};
+use crate::given::{over, random_rows, two_hot};
 use crate::same::{Sure, holds_in, same_in};
 use exhaustive::{Random, fewest_moved, least_greatest_heat};
 use mds_types::{Plan, Problem};
@@ -90,4 +90,17 @@ fn what_passes_is_best(rt: HostRuntime) {
         }
     }
     holds_in(&rt, passed > 20 && passed < 100, &passed);
+}
+
+// (half of the rows, ranks, moved inodes), where the search's cut moves the half: another division is taken if it moves
+// more than a 32nd fewer
+const FIRST_PLANS: [(u32, u64, u64); 4] = [(2, 0x3, 1), (31, 0x3, 30), (32, 0x3, 32), (2, 0x6, 4)];
+
+#[test]
+fn first_plans_move_clearly_fewer(rt: HostRuntime) {
+    for (half, ranks, moved) in FIRST_PLANS {
+        let rows = two_hot(&rt, rt.alloc(), half);
+        let plan = solved(&rt, rt.alloc(), &over(&rt, rows, ranks));
+        same_in(&rt, &plan.moved, &moved, &half);
+    }
 }

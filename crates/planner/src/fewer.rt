@@ -4,11 +4,14 @@
 //! search found, or with the borders where more inodes stay so. A change adds a cut, drops one, or puts one in
 //! another's place; the first that lets more inodes stay is made. Borders and cuts are tried first, then the edges next
 //! to them. A change makes at most three parts anew, so what it lets stay is worked out of the rows of these alone.
+//!
+//! In a first plan all rows are at one rank now, so there is no border, and one part stays. What is found is then taken
+//! only if it moves clearly fewer inodes: it fills the part that stays up to the bound, and later plans move more.
 ghost use Rattle.std.specs.Prelude.{◌≡◌, length};
 ghost use Rattle.mds_types.specs.Problem.{IsForest};
 
 use crate::parts::{Claim, Divided, RankInodes, is_top, set_top};
-use crate::pieces::{Piece, pieces_of};
+use crate::pieces::{Piece, Pieces, pieces_of};
 use mds_types::{ProblemRow, RankSet};
 use std::alloc::{AllocError, Global};
 
@@ -40,6 +43,8 @@ pub struct Limits {
 #[derive(Drop)]
 struct Search<'a> {
     pieces: &'a [Piece],
+    /// Whether they are at different ranks now.
+    has_border: bool,
     limits: Limits,
     /// `tops[i]` says whether a part begins with piece i. Whatever it says of the first piece, one begins there.
     tops: Vec<bool>,
@@ -243,11 +248,18 @@ impl<'a> Search<'a> {
         Ok(found)
     }
 
+    /// Whether changes that drop this top may let more inodes stay. Without borders one part stays, and adding a top
+    /// makes none larger.
+    fn is_promising(&mut self, dropped: usize) -> bool {
+        let change = self.change(dropped, 0);
+        self.has_border || self.kept_after(change) > self.kept
+    }
+
     /// Makes changes, so that more inodes stay, and says whether any does.
     fn improve(&mut self, alloc: Global, near: bool) -> Result<bool, AllocError> {
         let mut found = false;
         for dropped in 0..self.pieces.len() {
-            if is_top(&self.tops, dropped) {
+            if is_top(&self.tops, dropped) && self.is_promising(dropped) {
                 found |= self.replace(alloc, dropped, near)?;
             }
         }
@@ -286,12 +298,18 @@ fn kept(parts: &Option<Divided>) -> u64 {
     }
 }
 
-/// The parts with which more inodes stay than with the cuts, if any are found.
-fn better_parts(
-    alloc: Global,
-    pieces: &[Piece],
-    limits: Limits,
-) -> Result<Option<Divided>, AllocError> {
+/// Room for what ranks have of two parts of a division.
+fn rows_of(alloc: Global, parts: &Divided) -> Result<(RankInodes, RankInodes), AllocError> {
+    let width = parts.width();
+    Ok((
+        RankInodes::new(alloc, width)?,
+        RankInodes::new(alloc, width)?,
+    ))
+}
+
+/// The parts with which enough more inodes stay than with the cuts, if any are found.
+fn better_parts(alloc: Global, of: &Pieces, limits: Limits) -> Result<Option<Divided>, AllocError> {
+    let pieces = of.list.as_slice();
     let cuts = tops_of(alloc, pieces, false)?;
     let borders = tops_of(alloc, pieces, true)?;
     let by_cuts = Divided::new(alloc, pieces, limits, &cuts)?;
@@ -305,22 +323,19 @@ fn better_parts(
     let Some(parts) = first else {
         return Ok(None);
     };
-    let width = parts.width();
     let mut search = Search {
         pieces,
+        has_border: of.has_border,
         limits,
         tops,
         kept: parts.kept(&[], &[]),
+        rows: rows_of(alloc, &parts)?,
         parts,
         work: 0,
-        rows: (
-            RankInodes::new(alloc, width)?,
-            RankInodes::new(alloc, width)?,
-        ),
     };
     search.run(alloc, false)?;
     search.run(alloc, true)?;
-    if search.kept > least {
+    if search.kept >= of.enough(least) {
         Ok(Some(search.parts))
     } else {
         Ok(None)
@@ -341,7 +356,7 @@ pub fn fewer(
     let Some(pieces) = pieces_of(alloc, rows, part)? else {
         return Ok(None);
     };
-    let Some(parts) = better_parts(alloc, &pieces.list, limits)? else {
+    let Some(parts) = better_parts(alloc, &pieces, limits)? else {
         return Ok(None);
     };
     let numbers = parts.numbers(alloc)?;

@@ -279,7 +279,8 @@ fn from_cut<R: Threads + Sync>(
 
 /// A plan that is best for the problem, with the proofs that show it. Where the present placement is itself best, it
 /// is that, and moves nothing. Otherwise it moves no more inodes than any placing of the parts that `search` finds:
-/// other divisions are tried, and one that moves fewer is taken if it is as cool.
+/// other divisions are tried, and one that moves fewer is taken if it is as cool. Where all rows are at one rank
+/// now, it is taken only if it moves more than a 32nd fewer.
 ///
 /// It fails only when it is out of memory. The checker, `plan_checker::check`, says yes exactly where a plan
 /// is certified, so it accepts this one.

@@ -11,6 +11,12 @@ use std::alloc::{AllocError, Global};
 /// The most pieces that are made.
 const PIECE_LIMIT: usize = 1024;
 
+/// The most pieces that are made without borders, where the cuts need no more.
+const FIRST_PIECE_LIMIT: usize = 256;
+
+/// Without borders, one in so many of the inodes that the cuts move has to stay for another division to be taken.
+const FIRST_SHARE: u64 = 32;
+
 /// Connected rows, all at one rank now.
 #[derive(Clone, Copy)]
 pub struct Piece {
@@ -37,6 +43,8 @@ pub struct Pieces {
     pub list: Vec<Piece>,
     /// `of[i]` is the piece of row i.
     pub of: Vec<u16>,
+    /// Whether the rows are at different ranks now.
+    pub has_border: bool,
 }
 
 /// The rows of a division. `part[i]` is the part of row i.
@@ -106,9 +114,32 @@ impl Edges {
     fn has(&self, i: usize) -> bool {
         self.marks.get(i).copied().unwrap_or(false)
     }
+
+    /// How many pieces may be made beside those of the borders and the cuts.
+    fn room(&self) -> usize {
+        let limit = if self.has_border {
+            PIECE_LIMIT
+        } else {
+            FIRST_PIECE_LIMIT
+        };
+        limit.saturating_sub(self.count)
+    }
 }
 
 impl Pieces {
+    /// How many inodes have to stay with a division that is taken in place of the cuts, with which `least` stay.
+    pub fn enough(&self, least: u64) -> u64 {
+        if self.has_border {
+            return least.saturating_add(1);
+        }
+        let mut inodes: u64 = 0;
+        for piece in &self.list {
+            inodes = inodes.saturating_add(piece.inodes);
+        }
+        let gain = inodes.saturating_sub(least) / FIRST_SHARE;
+        least.saturating_add(gain).saturating_add(1)
+    }
+
     /// Puts a row into its parent's piece.
     fn join(&mut self, row: ProblemRow) -> Result<(), AllocError> {
         let at = self.of.get(row.parent as usize).copied().unwrap_or(0);
@@ -137,8 +168,7 @@ impl Pieces {
     }
 }
 
-/// The pieces of a division's rows. There are none where all rows are at one rank, or where the borders and the cuts
-/// make too many.
+/// The pieces of a division's rows. There are none where there is no border and no cut, or where these make too many.
 pub fn pieces_of(
     alloc: Global,
     rows: &[ProblemRow],
@@ -149,17 +179,20 @@ pub fn pieces_of(
 {
     let of = Labelled { rows, part };
     let edges = edges_of(alloc, of)?;
-    if !edges.has_border || edges.count >= PIECE_LIMIT {
+    if edges.count == 0 || edges.count >= PIECE_LIMIT {
         return Ok(None);
     }
-    let mut room = PIECE_LIMIT - edges.count;
+    let mut room = edges.room();
     let mut pieces = Pieces {
         list: Vec::with_capacity(alloc, PIECE_LIMIT)?,
         of: Vec::with_capacity(alloc, rows.len())?,
+        has_border: edges.has_border,
     };
     for (i, row) in rows.iter().enumerate() {
-        let (cut, border) = (is_cut(of, i), is_border(of, i));
-        let is_near = edges.has(i) || edges.has(row.parent as usize);
+        let is_marked = edges.has(i);
+        let cut = is_marked && is_cut(of, i);
+        let border = is_marked && is_border(of, i);
+        let is_near = is_marked || edges.has(row.parent as usize);
         if cut || border {
             pieces.begin(*row, cut, border)?;
         } else if i == 0 || (is_near && room > 1) {
