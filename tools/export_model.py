@@ -256,11 +256,13 @@ class Exports:
                 raise
             return str(cause)
 
-    def move_in_rounds(self, orders, parents):
-        """Carries out orders beside the exports that are open, and returns what became of each."""
-        earlier, started, seen = len(self.exports), {}, 0
+    def move_in_rounds(self, orders, parents, stops=()):
+        """Carries out orders beside the exports that are open, while ranks stop, each before its round; None is one for which
+        memory is refused. Returns what became of each order, and what stops were answered."""
+        earlier, started, seen, told = len(self.exports), {}, 0, []
         asking = [number for number, it in enumerate(self.exports) if it.importer == "started"]
         for at in range(ROUNDS):
+            told += ["refused 0 Memory" if rank is None else self.tried(self.stop, rank) for rank, round in stops if round == at + 1]
             taken, seen = self.sent[seen:], len(self.sent)
             first = seen - len(taken)
             ranks = sorted({*self.journals, *(order[0] for order in orders), *(it.to for it in self.exports)})
@@ -287,7 +289,7 @@ class Exports:
         for number in range(earlier, len(self.exports)):
             if self.exports[number].exporter in BEFORE_LOG:
                 self.tried(self.abort, number)
-        return [self.word(started[number]) for number in range(len(orders))]
+        return [self.word(started[number]) for number in range(len(orders))], [it for it in told if it]
 
     def word(self, told):
         if told.startswith("refused"):

@@ -33,6 +33,7 @@ Commands of a script, one a line:
   traffic           serve the queued requests while directories move
   stop RANK         stop a rank
   restart RANK      restart a rank
+  fail RANK ROUND   stop a rank before a round of the next move or traffic
   stat              print a report on all directories
   start FROM TO [PATH ..]
                     start an export of these directories, from one rank to another

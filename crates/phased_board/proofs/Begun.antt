@@ -12,7 +12,7 @@ use Rattle.mds_board.specs.declared.change.Change.TheVariants.{Step}
 use Rattle.mds_board.specs.State as state
 use Rattle.mds_board.specs.State.{State}
 use Rattle.mds_board.specs.Steps.{spelled}
-use Rattle.export_rounds.specs.Going.{WentOnBy}
+use Rattle.phased_board.specs.Going.{WentOnWithStops}
 use Rattle.mds_board.specs.History.{World, IsAnswer}
 use Rattle.mds_board.specs.Stored.{began}
 use Rattle.phased_board.specs.Begun.{IsBegun}
@@ -34,11 +34,12 @@ entered : (old new : World) (r d t : ℕ) → IsAnswer old (Step (Begin r d)) (O
 entered old new r d t a =
     ap (λ (w : World). w.history) a.3 ∙ ap (λ (x : Answer). old.history ++ record { change = Step (Begin r d); reply = x } ∷ []) (sym a.2)
 
-pub begun_now : (before old new : World) (rank dir : ℕ) (r : Result ℕ BoardError) → WentOnBy true true before old → IsAnswer old (Step (Begin rank dir)) (spelled (λ t. answer.Reply (Ticket t)) r) new
+pub begun_now : (stops : List ℕ) (before old new : World) (rank dir : ℕ) (r : Result ℕ BoardError) → WentOnWithStops true true stops before old → IsAnswer old (Step (Begin rank dir)) (spelled (λ t. answer.Reply (Ticket t)) r) new
     → IfOk r (λ t. IsBegun before new.history rank dir t)
-begun_now before old new rank dir (Err e) went a = tt
-begun_now before old new rank dir (Ok t) went a = record {
+begun_now stops before old new rank dir (Err e) went a = tt
+begun_now stops before old new rank dir (Ok t) went a = record {
   board = old;
+  stops = stops;
   went = went;
   allowed = a.0;
   given = given_of old.state rank dir t a.2;

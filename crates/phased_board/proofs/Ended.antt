@@ -5,11 +5,12 @@ use Rattle.std.specs.List.{All}
 use Rattle.export_protocol.specs.Authority.{request_of}
 use Rattle.export_protocol.specs.Cluster as cluster
 use Rattle.export_protocol.specs.Step as machine
+use Rattle.export_protocol.specs.Step.{map_at}
 use Rattle.export_protocol.specs.declared.event.Event.{Event}
 use Rattle.export_protocol.proofs.Frame.{delivered_frame}
 use Rattle.heat_ledger.specs.declared.dir_hits.DirHits.{DirHits}
 use Rattle.mds_board.proofs.Mapping.{after_step}
-use Rattle.export_protocol.specs.declared.event.Event.TheVariants.{Abort, Ask, Begin, Deliver, End, Froze, Notify, Start}
+use Rattle.export_protocol.specs.declared.event.Event.TheVariants.{Abort, Ask, Begin, Deliver, End, Froze, Notify, Start, Stop}
 use Rattle.export_protocol.specs.declared.event.Reply.TheVariants.{Ticket}
 use Rattle.export_protocol.specs.declared.event.Request.{Request}
 use Rattle.export_protocol.specs.declared.step_error.StepError.{StepError}
@@ -23,8 +24,8 @@ use Rattle.mds_board.specs.declared.change.Change.TheVariants.{Deposit, Step}
 use Rattle.mds_board.specs.State as state
 use Rattle.mds_board.specs.State.{State}
 use Rattle.mds_board.specs.Steps.{IsDue}
-use Rattle.export_rounds.specs.Going.{IsOfKind, IsOfPhase, WentOnBy, added, is_of_requests}
-use Rattle.export_rounds.proofs.ByKind.{by_exports, head_has, tail_have}
+use Rattle.phased_board.specs.Going.{IsOfKind, IsOfPhase, IsOfStops, WentOnWithStops, added, is_of_requests}
+use Rattle.phased_board.proofs.ByKind.{by_exports, by_stops, head_has, tail_have}
 use Rattle.phased_board.proofs.Requests.{by_requests}
 use Rattle.mds_board.specs.declared.entry.Entry.{Entry}
 use Rattle.mds_board.specs.History.{World, IsAnswer, IsReplay, entry_of}
@@ -157,6 +158,22 @@ phase_tickets s n =
     by_exports (λ (c : Change). (state.next s c).cluster.tickets ≡ s.cluster.tickets) n
     (λ e inner is. ap (λ (t : State). t.cluster.tickets) (after_step s e inner) ∙ event_tickets s.cluster n e is)
 
+-- a stop ends requests, and takes no ticket away
+map_long : (f : ℕ → Option Request → Option Request) (ts : List (Option Request)) → length (map_at f ts) ≡ length ts
+map_long f [] = refl
+map_long f (t ∷ ts) = ap suc (map_long (λ k. f (suc k)) ts)
+
+stopped_tickets : (w : cluster.World) (rank : ℕ) → (state.after_event w (Stop rank)).tickets ≡ map_at (λ t request. machine.ends_at rank request) w.tickets
+unfolding machine.happens
+stopped_tickets w rank = refl
+
+pub stop_tickets : (s : State) (stops : List ℕ) (c : Change) → IsOfStops stops c → length (state.next s c).cluster.tickets ≡ length s.cluster.tickets
+stop_tickets s stops =
+    by_stops (λ (c : Change). length (state.next s c).cluster.tickets ≡ length s.cluster.tickets) stops
+    (λ rank is.
+    ap (λ (t : State). length t.cluster.tickets) (after_step s (Stop rank) refl)
+    ∙ (ap (λ (ts : List (Option Request)). length ts) (stopped_tickets s.cluster rank) ∙ map_long (λ t request. machine.ends_at rank request) s.cluster.tickets))
+
 -- a ticket from here on is given later, or its request is over
 one_over : (now : World) (s : State) (told : Answer)
     → ((t : ℕ) → told ≡ answer.Reply (Ticket t) → request_of now.state.cluster t ≡ None) → (t : ℕ) → length s.cluster.tickets ≤ t
@@ -177,30 +194,31 @@ one_over now s told over t low =
           | inr same ↦ inr (over t (reply ∙ (begin_reply s r d ∙ ap (λ (n : ℕ). answer.Reply (Ticket n)) (sym same))))
         ]
 
-kind_over : (r x : Bool) (n : ℕ) (now : World) (s : State) (c : Change) (told : Answer) → IsOfKind r x n c → told ≡ (state.happens s c).reply
+kind_over : (r x : Bool) (stops : List ℕ) (n : ℕ) (now : World) (s : State) (c : Change) (told : Answer) → IsOfKind r x stops n c → told ≡ (state.happens s c).reply
     → ((t : ℕ) → told ≡ answer.Reply (Ticket t) → request_of now.state.cluster t ≡ None) → (t : ℕ) → length s.cluster.tickets ≤ t
     → (length (state.next s c).cluster.tickets ≤ t) ⊎ (request_of now.state.cluster t ≡ None)
-kind_over r x n now s c told (inl is) reply over t low = one_over now s told over t low c is.1 reply
-kind_over r x n now s c told (inr is) reply over t low = let same = ap (λ (ts : List (Option Request)). length ts) (phase_tickets s n c is.1) in inl (omega arith)
+kind_over r x stops n now s c told (inl is) reply over t low = one_over now s told over t low c is.1 reply
+kind_over r x stops n now s c told (inr (inl is)) reply over t low = let same = ap (λ (ts : List (Option Request)). length ts) (phase_tickets s n c is.1) in inl (omega arith)
+kind_over r x stops n now s c told (inr (inr is)) reply over t low = let same = stop_tickets s stops c is in inl (omega arith)
 
 -- the requests that began by these entries are over
-all_over : (r x : Bool) (n : ℕ) (now : World) (s : State) (es : List Entry) (u : State) → All (λ (e : Entry). IsOfKind r x n e.change) es → IsReplay s es u
+all_over : (r x : Bool) (stops : List ℕ) (n : ℕ) (now : World) (s : State) (es : List Entry) (u : State) → All (λ (e : Entry). IsOfKind r x stops n e.change) es → IsReplay s es u
     → ((k : ℕ) (e : Entry) → slice_get es k ≡ Some e → IsOver now e) → (t : ℕ) → length s.cluster.tickets ≤ t → t < length u.cluster.tickets
     → request_of now.state.cluster t ≡ None
-all_over r x n now s [] u alone replay over t low high = let same = ap (λ (v : State). length v.cluster.tickets) replay in absurd (omega arith)
-all_over r x n now s (e ∷ es) u alone replay over t low high =
-    elim (kind_over r x n now s e.change e.reply (head_has (λ (it : Entry). IsOfKind r x n it.change) e es alone) replay.2 (over 0 e refl) t low) [
-      | inl later ↦ all_over r x n now (state.next s e.change) es u (tail_have (λ (it : Entry). IsOfKind r x n it.change) e es alone) replay.3 (λ k. over (suc k)) t later high
+all_over r x stops n now s [] u alone replay over t low high = let same = ap (λ (v : State). length v.cluster.tickets) replay in absurd (omega arith)
+all_over r x stops n now s (e ∷ es) u alone replay over t low high =
+    elim (kind_over r x stops n now s e.change e.reply (head_has (λ (it : Entry). IsOfKind r x stops n it.change) e es alone) replay.2 (over 0 e refl) t low) [
+      | inl later ↦ all_over r x stops n now (state.next s e.change) es u (tail_have (λ (it : Entry). IsOfKind r x stops n it.change) e es alone) replay.3 (λ k. over (suc k)) t later high
       | inr gone ↦ gone
     ]
 
 -- no request runs that began since
-pub none_runs : (r x : Bool) (before mid now : World) → WentOnBy r x before mid → ((k : ℕ) (e : Entry) → length before.history ≤ k → k < length mid.history → slice_get mid.history k ≡ Some e → IsOver now e)
+pub none_runs : (r x : Bool) (stops : List ℕ) (before mid now : World) → WentOnWithStops r x stops before mid → ((k : ℕ) (e : Entry) → length before.history ≤ k → k < length mid.history → slice_get mid.history k ≡ Some e → IsOver now e)
     → ((t : ℕ) → request_of mid.state.cluster t ≡ None → request_of now.state.cluster t ≡ None) → (t : ℕ) → length before.state.cluster.tickets ≤ t
     → request_of now.state.cluster t ≡ None
-none_runs r x before mid now went over stays t low =
+none_runs r x stops before mid now went over stays t low =
     elim (inside_or_past (length mid.state.cluster.tickets) t) [
-      | inl inside ↦ all_over r x (length before.state.cluster.orders) now before.state (added before mid) mid.state went.alone went.replay
+      | inl inside ↦ all_over r x stops (length before.state.cluster.orders) now before.state (added before mid) mid.state went.alone went.replay
           (λ k e is. (let found = from_drop mid.history (length before.history) k e is in over (length before.history + k) e (omega arith) (inside_of mid.history (length before.history + k) e found) found))
           t low inside
       | inr beyond ↦ stays t (past mid.state.cluster.tickets t beyond)

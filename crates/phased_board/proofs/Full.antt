@@ -14,14 +14,14 @@ use Rattle.mds_board.specs.declared.change.Change.{Change}
 use Rattle.mds_board.specs.State as state
 use Rattle.mds_board.specs.State.{State}
 use Rattle.mds_board.specs.Steps.{IsDue}
-use Rattle.export_rounds.specs.Going.{IsOfKind, WentOnBy, added, is_of_requests}
-use Rattle.export_rounds.proofs.Going.{parts_of, unpublished}
-use Rattle.export_rounds.proofs.ByKind.{tail_have}
+use Rattle.phased_board.specs.Going.{IsOfKind, WentOnBy, added, is_of_requests}
+use Rattle.phased_board.proofs.Going.{all_parts, parts_of, unpublished}
+use Rattle.phased_board.proofs.ByKind.{by_stops, none_named, tail_have}
 use Rattle.phased_board.proofs.Requests.{by_requests}
 use Rattle.mds_board.specs.declared.entry.Entry.{Entry}
 use Rattle.mds_board.specs.History.{World, IsReplay}
 use Rattle.mds_board.specs.Promises.{IsKept}
-use Rattle.export_rounds.specs.Moments.{IsMet}
+use Rattle.phased_board.specs.Moments.{IsMet}
 
 -- How one goes on to another.
 
@@ -41,9 +41,10 @@ replay_after : (s : State) (xs ys : List Entry) (t u : State) → IsReplay s xs 
 replay_after s [] ys t u h r = subst (λ (v : State). IsReplay v ys u) (sym h) r
 replay_after s (x ∷ xs) ys t u h r = replay_after (state.next s x.change) xs ys t u h.3 r.3
 
-only_requests : (n more : ℕ) (c : Change) → IsOfKind true false n c → IsOfKind true false more c
+only_requests : (n more : ℕ) (c : Change) → IsOfKind true false [] n c → IsOfKind true false [] more c
 only_requests n more c (inl is) = inl is
-only_requests n more c (inr is) = let no = is.0 in absurd (cc)
+only_requests n more c (inr (inl is)) = let no = is.0 in absurd (cc)
+only_requests n more c (inr (inr is)) = absurd (by_stops (λ (d : Change). ⊥) [] none_named c is)
 
 pub goes_between : (before between last : World) → WentOnBy true false before between → WentOnBy true false before last → IsPrefix between.history last.history
     → WentOnBy true false between last
@@ -57,8 +58,8 @@ goes_between before between last mid went more =
       kept = ap (λ (l : List Entry). take (length between.history) l) is ∙ take_whole between.history more.0;
       alone = rw beyond (λ i d l.
           only_requests (length before.state.cluster.orders) (length between.state.cluster.orders) (get_or more.0 i d).change
-          (all_after (λ (e : Entry). IsOfKind true false (length before.state.cluster.orders) e.change) (added before between) more.0
-          (subst (λ (l : List Entry). All (λ e. IsOfKind true false (length before.state.cluster.orders) e.change) l) parts went.alone) i d l));
+          (all_after (λ (e : Entry). IsOfKind true false [] (length before.state.cluster.orders) e.change) (added before between) more.0
+          (subst (λ (l : List Entry). All (λ e. IsOfKind true false [] (length before.state.cluster.orders) e.change) l) parts went.alone) i d l));
       replay = rw beyond (replay_after before.state (added before between) more.0 between.state last.state mid.replay (subst (λ (l : List Entry). IsReplay before.state l last.state) parts went.replay));
       same_book = (went.same_book.0 ∙ sym mid.same_book.0, went.same_book.1 ∙ sym mid.same_book.1);
       same_map = inl (unpublished before last went ∙ sym (unpublished before between mid));
@@ -100,6 +101,6 @@ full_at_last before last c is went kept met =
     let more = events_by before.state (added before last) last.state went.replay in
     let long = ap (λ (l : List Entry). length l) (parts_of true false before last went) ∙ length-append before.history (added before last) in
     let some = events_by before.state (added before met.board) met.board.state met.went.replay in
-    let short = ap (λ (l : List Entry). length l) (parts_of true true before met.board met.went) ∙ length-append before.history (added before met.board) in
+    let short = ap (λ (l : List Entry). length l) (all_parts true true met.stops before met.board met.went) ∙ length-append before.history (added before met.board) in
     let less = prefix_length met.board.history last.history met.kept in
     omega arith

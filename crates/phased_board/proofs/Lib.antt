@@ -1,6 +1,11 @@
+pub mod Asking
 pub mod Begun
+pub mod ByKind
 pub mod Ended
 pub mod Full
+pub mod Going
 pub mod GoingOn
 pub mod Later
+pub mod Ordering
 pub mod Requests
+pub mod Stopped

@@ -4,7 +4,7 @@ use Rattle.export_protocol.specs.declared.event.Event.TheVariants.{Begin, End}
 use Rattle.heat_ledger.specs.declared.dir_hits.DirHits.{DirHits}
 use Rattle.mds_board.specs.declared.change.Change.{Change}
 use Rattle.mds_board.specs.declared.change.Change.TheVariants.{Deposit, Step}
-use Rattle.export_rounds.specs.Going.{is_of_requests}
+use Rattle.phased_board.specs.Going.{is_of_requests}
 
 -- what holds of each request that begins, of each end and of each deposit holds of each change of requests
 pub by_requests : (P : Change → Type 0) → ((r d : ℕ) → P (Step (Begin r d))) → ((t : ℕ) → P (Step (End t))) → ((hits : List DirHits) → P (Deposit hits))

@@ -6,8 +6,8 @@ use Rattle.export_protocol.specs.declared.event.Reply.TheVariants.{Ticket}
 use Rattle.export_protocol.specs.declared.step_error.StepError.TheVariants.{NoTicket}
 use Rattle.export_protocol.specs.Authority.{request_of}
 use Rattle.export_protocol.specs.Step as machine
-use Rattle.export_rounds.specs.Going.{WentOnBy}
-use Rattle.export_rounds.specs.Moments.{IsMet}
+use Rattle.phased_board.specs.Going.{WentOnWithStops}
+use Rattle.phased_board.specs.Moments.{IsMet}
 use Rattle.mds_board.specs.declared.board_error.BoardError.{BoardError}
 use Rattle.mds_board.specs.declared.board_error.BoardError.TheVariants as board_error
 use Rattle.mds_board.specs.declared.change.Change.TheVariants.{Step}
@@ -20,7 +20,8 @@ use Rattle.mds_board.specs.Stored.{began}
 -- is the history of a board that had gone on from the phase's first.
 pub record IsBegun (before : World) (log : List Entry) (rank dir ticket : ℕ) : Type 0 where
   pub board : World
-  pub went : WentOnBy true true before board
+  pub stops : List ℕ
+  pub went : WentOnWithStops true true stops before board
   pub allowed : refusal board.state (Step (Begin rank dir)) ≡ None
   pub given : (machine.happens board.state.cluster (Begin rank dir)).reply ≡ Ticket ticket
   pub kept : IsPrefix (board.history ++ began rank dir ticket ∷ []) log

@@ -1,2 +1,9 @@
+pub mod Asked
 pub mod Begun
 pub mod Going
+pub mod Looks
+pub mod Moments
+pub mod OnTheWay
+pub mod Outcomes
+pub mod Pairs
+pub mod Stops

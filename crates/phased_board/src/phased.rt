@@ -1,24 +1,26 @@
 //! The board that the threads of a phase share, under its lock.
 ghost use Rattle.std.specs.Prelude.{◌≡◌, ◌≤◌, ◌↔◌, ◌+◌, ◌++◌, ◌∷◌, [], Some, count_by, replicate};
-ghost use Rattle.std.specs.Prelude.{IfErr, IfOk, IsTrue, OnErr, OnOk, true};
+ghost use Rattle.std.specs.Prelude.{Err, IfErr, IfOk, IsOk, IsTrue, OnErr, OnOk, true};
 ghost use Rattle.heat_ledger.specs.Rows.{counted_rows, raised};
 ghost use Rattle.mds_board.specs.Steps.{spelled};
 ghost use Rattle.export_protocol.specs.Step.{refusal};
-ghost use Rattle.export_rounds.specs.Asked.{AreAsked, is_begun};
-ghost use Rattle.export_rounds.specs.Going.{WentOnBy};
-ghost use Rattle.export_rounds.specs.Moments.{IsMet};
+ghost use Rattle.phased_board.specs.Asked.{AreAsked, is_begun};
+ghost use Rattle.phased_board.specs.Going.{WentOnWithStops};
+ghost use Rattle.phased_board.specs.Moments.{IsMet};
+ghost use Rattle.phased_board.specs.Stops.{IsStopped, ranks_of};
+ghost use Rattle.std.specs.List.{Contains};
 ghost use Rattle.mds_board.specs.History.{IsAnswer};
 ghost use Rattle.mds_board.specs.Promises.{IsKept};
 ghost use Rattle.phased_board.specs.Begun.{IsBegun};
-ghost use Rattle.phased_board.specs.Going.{IsOnTheWay, WasPublished};
+ghost use Rattle.phased_board.specs.OnTheWay.{IsOnTheWay, WasPublished};
 ghost use Rattle.proof_names.specs.Numbers.{AreApart};
 ghost use mathlib.Core.List.{IsPrefix};
 
+use crate::starting::settle_at;
+use crate::{ExportSide, Standing};
 use authority_map::Publisher;
 use export_machine::Cluster;
 use export_protocol::{Event, Reply, StepError};
-use export_rounds::starting::settle_at;
-use export_rounds::{ExportSide, Standing};
 use heat_ledger::Share;
 use mds_board::{Answer, Board, BoardError, Change, Entry};
 use mds_types::{Dir, Rank};
@@ -27,11 +29,13 @@ use std::alloc::{AllocError, Global};
 use std::marker::{Brand, Model, PhantomData};
 
 /// Names the board with which a phase begins, its orders, whether it has requests and whether exports go on in it, the
-/// log of what happens to the board, and the giver of its tickets. It exists in proofs only, and a phase picks it.
+/// ranks that stop in it, the log of what happens to the board, and the giver of its tickets. It exists in proofs only,
+/// and a phase picks it.
 pub trait Phase: LogName + NumbersName {
     ghost use Rattle.std.specs.Prelude.{Bool, List};
     ghost use Rattle.mds_board.specs.History.{World};
     ghost use Rattle.mds_types.specs.declared.order.Order.{Order};
+    ghost use Rattle.phased_board.specs.declared.breaks.RankStop.{RankStop};
 
     ghost before: { World };
 
@@ -40,6 +44,9 @@ pub trait Phase: LogName + NumbersName {
     ghost requests: { Bool };
 
     ghost exports: { Bool };
+
+    // the ranks that stop in it, each with its round
+    ghost stops: { List RankStop };
 }
 
 impl Phase for Brand {
@@ -53,6 +60,8 @@ impl Phase for Brand {
     ghost requests = { false };
 
     ghost exports = { false };
+
+    ghost stops = { [] };
 }
 
 /// What a phase begins with besides its board: the log of what happens to it, and the giver of its tickets.
@@ -98,14 +107,15 @@ pub struct Phased<J: Naming, M: Publisher<J>, K: Phase> {
 impl<J: Naming, M: Publisher<J>, K: Phase> Model for Phased<J, M, K> {
     ghost use Rattle.mds_board.specs.History.{World};
     ghost use Rattle.std.specs.Prelude.{◌≡◌};
-    ghost use Rattle.phased_board.specs.Going.{IsOnTheWay};
+    ghost use Rattle.phased_board.specs.Stops.{ranks_of};
+    ghost use Rattle.phased_board.specs.OnTheWay.{IsOnTheWay};
 
     ghost Value = { World };
 
     ghost view = { λ p. p.board };
 
-    ghost invariant = { λ p. IsOnTheWay K.requests K.exports K.before K.orders p.board p.standings.items p.tickets
-        × (p.exports ≡ K.exports) × (p.log ≡ p.board.history) };
+    ghost invariant = { λ p. IsOnTheWay K.requests K.exports (ranks_of K.stops) K.before K.orders p.board
+        p.standings.items p.tickets × (p.exports ≡ K.exports) × (p.log ≡ p.board.history) };
 }
 
 impl<J: Naming, M: Publisher<J>, K: Phase> Phased<J, M, K> {
@@ -214,6 +224,24 @@ impl<J: Naming, M: Publisher<J>, K: Phase> Phased<J, M, K> {
         deposited
     }
 
+    /// A rank stops that stops in the phase. The thread has then seen the board's history.
+    pub fn stop(
+        &mut self,
+        alloc: Global,
+        known: &mut Known<K>,
+        rank: Rank,
+    ) -> Result<(), BoardError>
+        requires { Contains (ranks_of K.stops) rank }
+        ensures stopped { OnOk result (IsStopped K.before known.new.seen rank) }
+        ensures refused { IfErr result (λ error. IsMet K.before known.new.seen (Change.Step (Event.Stop rank)) error) }
+        ensures seen { IsPrefix known.old.seen known.new.seen }
+        ensures tickets { known.new.tickets ≡ known.old.tickets }
+    {
+        let stopped = self.board.step(alloc, Event::Stop(rank));
+        tell(&self.board, &mut self.log, &mut known.seen);
+        refusal_of(stopped)
+    }
+
     /// What a thread knows that has seen the board's history and was given no ticket.
     pub fn look(&mut self) -> Known<K>
         ensures seen { result.seen ≡ self.old.history }
@@ -253,7 +281,7 @@ impl<J: Naming, M: Publisher<J>, K: Phase> Phased<J, M, K> {
     /// gone on from the one with which the phase began. It does nothing.
     pub fn promises(&self)
         ensures kept { IsKept self.now }
-        ensures went { WentOnBy K.requests K.exports K.before self.now }
+        ensures went { WentOnWithStops K.requests K.exports (ranks_of K.stops) K.before self.now }
     {
         self.board.promises();
     }
@@ -268,7 +296,8 @@ impl<J: Naming, M: Publisher<J>, K: Phase> Phased<J, M, K> {
     /// The board, and the state of each order.
     pub fn into_parts(self) -> (Board<J, M>, Vec<Standing>)
         ensures same { result.0 ≡ self }
-        ensures way { IsOnTheWay K.requests K.exports K.before K.orders result.0 result.1.items 0 }
+        ensures way { IsOnTheWay K.requests K.exports (ranks_of K.stops) K.before K.orders result.0
+            result.1.items 0 }
     {
         let Phased {
             board,
@@ -341,6 +370,17 @@ fn begin<J: Naming, M: Publisher<J>>(
     match board.begin(share, rank, dir) {
         Ok(Reply::Ticket(ticket)) => Ok(ticket),
         Ok(_) => unreachable!(),
+        Err(error) => Err(error),
+    }
+}
+
+// The refusal of an event, if it was refused.
+fn refusal_of(answered: Result<Reply, BoardError>) -> Result<(), BoardError>
+    ensures done { IsOk result → IsOk answered }
+    ensures refused { IfErr result (λ error. answered ≡ Err error) }
+{
+    match answered {
+        Ok(_reply) => Ok(()),
         Err(error) => Err(error),
     }
 }

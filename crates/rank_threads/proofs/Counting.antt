@@ -60,11 +60,6 @@ served_none limit s = record {
   };
 }
 
--- a list of no requests
-pub served_empty : (limit : ℕ) (s : ShareData) (works : List Work) → length works ≡ 0 → IsServed limit s works [] s
-served_empty limit s [] none = served_none limit s
-served_empty limit s (w ∷ works) none = absurd (cc)
-
 -- one request more
 pub served_more : (limit : ℕ) (old mid new : ShareData) (works : List Work) (answers : List WorkAnswer) (w : Work) (a : WorkAnswer)
     → IsServed limit old works answers mid → Fits w a → IsShort limit new w.dir w.kind a.refused → Counted limit mid (w ∷ []) (a ∷ []) new → IsServed limit old (works ++ w ∷ []) (answers ++ a ∷ []) new

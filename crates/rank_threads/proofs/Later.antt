@@ -10,7 +10,7 @@ use Rattle.rank_threads.specs.declared.work.Work.{Work}
 use Rattle.rank_threads.specs.declared.work.WorkAnswer.{WorkAnswer}
 use Rattle.rank_threads.specs.declared.work.WorkError.{WorkError}
 use Rattle.rank_threads.specs.declared.work.WorkError.TheVariants as error
-use Rattle.export_rounds.proofs.Asking.{follows, met_later}
+use Rattle.phased_board.proofs.Asking.{follows, met_later}
 use Rattle.phased_board.proofs.Later.{begun_later}
 use Rattle.rank_threads.specs.Answered.{AreAnswered, IsAnswered, IsDepositTold, IsRankAnswered, IsReply}
 use Rattle.rank_threads.specs.Asking.{AreServed}
@@ -26,7 +26,7 @@ reply_later before log longer rank dir None None more h = h
 
 published_later : (before : World) (log longer : List Entry) (dir asked : ℕ) → IsPrefix log longer → IsPublishedAt before log dir asked → IsPublishedAt before longer dir asked
 published_later before log longer dir asked more h =
-    (h.0, record { board = h.1.board; went = h.1.went; kept = follows h.1.board.history log longer h.1.kept more; named = h.1.named }, h.2)
+    (h.0, record { board = h.1.board; stops = h.1.stops; went = h.1.went; kept = follows h.1.board.history log longer h.1.kept more; named = h.1.named }, h.2)
 
 pub asked_longer : (before : World) (log longer : List Entry) (old new : Way) (dir asked : ℕ) → IsPrefix log longer → IsAskedAt before log old new dir asked → IsAskedAt before longer old new dir asked
 asked_longer before log longer (At rank) new dir asked more h = h

@@ -4,4 +4,5 @@ pub mod Later
 pub mod Naming
 pub mod Returning
 pub mod Routing
+pub mod Stops
 pub mod Summing

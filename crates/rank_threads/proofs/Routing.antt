@@ -13,7 +13,7 @@ use Rattle.rank_threads.specs.declared.work.WorkAnswer.{WorkAnswer}
 use Rattle.mds_board.specs.declared.board_error.BoardError.{BoardError}
 use Rattle.rank_threads.specs.Answered.{AreAnswered, IsAnswered}
 use Rattle.rank_threads.specs.Asking.{AreServed}
-use Rattle.rank_threads.specs.Ways.{At, ByMap, Hand, HoldsAsMuch, IsAskedAt, IsByMap, IsFoundAt, IsPublishedAt, Way, hands_of, own_ranks, rank_or_zero}
+use Rattle.rank_threads.specs.Ways.{At, ByMap, Hand, HoldsAsMuch, IsAskedAt, IsFoundAt, Way, hands_of, own_ranks, rank_or_zero}
 
 follows : (xs ys zs : List Operation) → IsPrefix xs ys → IsPrefix ys zs → IsPrefix xs zs
 follows xs ys zs p q = (p.0 ++ q.0, sym (append_assoc xs p.0 q.0) ∙ (ap (λ (l : List Operation). l ++ q.0) p.1 ∙ q.1))
@@ -59,15 +59,6 @@ asked_since before log (ByMap old) (ByMap mid) new dir asked k (inl h) = inl (fo
 asked_since before log (ByMap old) (ByMap mid) new dir asked k (inr h) = inr h
 asked_since before log (At r) (ByMap mid) new dir asked k h = absurd k
 asked_since before log (ByMap old) (At s) new dir asked k h = absurd k
-
--- asked where it was found, or where a board of the phase had published it
-pub asked_found : (before : World) (log : List Entry) (old new : Way) (dir asked : ℕ) → IsFoundAt old new dir asked → IsAskedAt before log old new dir asked
-asked_found before log (At r) new dir asked h = h
-asked_found before log (ByMap old) new dir asked h = inl h
-
-pub asked_published : (before : World) (log : List Entry) (old new : Way) (dir asked : ℕ) → IsByMap old → IsPublishedAt before log dir asked → IsAskedAt before log old new dir asked
-asked_published before log (At r) new dir asked is h = absurd is
-asked_published before log (ByMap old) new dir asked is h = inr h
 
 pub one_since : (before : World) (log : List Entry) (old mid new : Way) (w : Work) (a : WorkAnswer) → HoldsAsMuch old mid → IsAnswered before log mid new w a → IsAnswered before log old new w a
 one_since before log old mid new w a k h = (h.0, asked_since before log old mid new w.dir h.0 k h.1, h.2)

@@ -5,7 +5,7 @@ use Rattle.std.specs.List.{sum_by}
 use Rattle.heat_ledger.specs.Ledger.{ShareData, begun_of, hits_of, pending_of, weight_of}
 use Rattle.heat_ledger.specs.Rows.{at}
 use Rattle.mds_board.specs.History.{World}
-use Rattle.export_rounds.specs.Going.{WentOnBy}
+use Rattle.phased_board.specs.Going.{WentOnWithStops}
 use Rattle.rank_threads.specs.declared.work.Work.{Work}
 use Rattle.rank_threads.specs.declared.work.WorkAnswer.{WorkAnswer}
 use Rattle.rank_threads.specs.Serving.{AreReturned, IsReturned, begun_on, hits_on}
@@ -46,9 +46,10 @@ same_weight limit (s ∷ olds) (w ∷ scripts) (a ∷ answers) [] h = absurd h
 
 -- what a phase leaves to a caller that has all shares
 
-pub whole_after : (r x : Bool) (limit : ℕ) (old new : World) (olds : List ShareData) (scripts : List (List Work)) (answers : List (List WorkAnswer)) (news : List ShareData) → WentOnBy r x old new
+pub whole_after : (r x : Bool) (stops : List ℕ) (limit : ℕ) (old new : World) (olds : List ShareData) (scripts : List (List Work)) (answers : List (List WorkAnswer)) (news : List ShareData)
+    → WentOnWithStops r x stops old new
     → AreReturned limit olds scripts answers news → weight_of olds ≡ old.shares → weight_of news ≡ new.shares
-whole_after r x limit old new olds scripts answers news went h whole = same_weight limit olds scripts answers news h ∙ (whole ∙ sym went.same_book.1)
+whole_after r x stops limit old new olds scripts answers news went h whole = same_weight limit olds scripts answers news h ∙ (whole ∙ sym went.same_book.1)
 
 -- the board counts what all shares count
 pub record IsAudited (w : World) (shares : List ShareData) : Type 0 where

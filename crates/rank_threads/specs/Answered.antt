@@ -4,7 +4,7 @@ use Rattle.std.specs.Prelude.{None, All, Result, Ok, Err}
 use Rattle.std.specs.List.{AllZip}
 use Rattle.export_protocol.specs.declared.event.Event.TheVariants.{Begin}
 use Rattle.heat_ledger.specs.declared.dir_hits.DirHits.{DirHits}
-use Rattle.export_rounds.specs.Moments.{IsMet}
+use Rattle.phased_board.specs.Moments.{IsMet}
 use Rattle.mds_board.specs.declared.board_error.BoardError.{BoardError}
 use Rattle.mds_board.specs.declared.change.Change.TheVariants.{Deposit, Step}
 use Rattle.mds_board.specs.declared.entry.Entry.{Entry}

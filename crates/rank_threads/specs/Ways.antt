@@ -5,7 +5,7 @@ use Rattle.authority_map.specs.Operations.{Operation, rank_after}
 use Rattle.heat_ledger.specs.Ledger.{ShareData}
 use Rattle.mds_board.specs.declared.entry.Entry.{Entry}
 use Rattle.mds_board.specs.History.{World}
-use Rattle.phased_board.specs.Going.{WasPublished}
+use Rattle.phased_board.specs.OnTheWay.{WasPublished}
 
 -- It asks at this rank, or looks each directory up by a reader of the map, whose answers hold these operations.
 pub data Way : Type 0 where

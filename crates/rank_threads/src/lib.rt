@@ -1,17 +1,33 @@
-//! Requests of the ranks, each rank's by a thread of its own, over one board under a lock. Phases of exports are in
-//! `export_threads`, and those of both in `traffic_threads`.
+//! Phases of a board under a lock, in which threads of the ranks work.
+//!
+//! In a phase of requests each rank's are asked by a thread of its own (`serve_phase`), in one of exports each rank's
+//! turns are taken by a thread of its own (`export_phase`), and in `traffic_phase` both go on at once.
 #![tactic(auto)]
 
 mod desk;
+pub mod exporting;
 pub mod phase;
+mod place;
 pub mod route;
 mod serving;
+pub mod stopping;
 pub mod totals;
+pub mod traffic;
+pub mod traffic_totals;
+mod turn;
+mod turns;
+mod under_way;
 pub mod work;
 
-pub use export_rounds::{Gate, OpenGate};
+pub use exporting::{
+    Exported, Places, Prepared, carry_out, export_phase, export_phase_from,
+    export_phase_with_stops, prepare,
+};
 pub use phase::{Ranks, serve_phase};
-pub use phased_board::{Known, Phase, Phased};
+pub use phased_board::{Gate, Known, OpenGate, Outcome, Phase, Phased, RankStop, Unsettled};
 pub use route::{OwnRank, Route};
+pub use stopping::Stopping;
 pub use totals::serve_with_totals;
+pub use traffic::{Tasks, Traffic, traffic_phase};
+pub use traffic_totals::traffic_with_totals;
 pub use work::{Work, WorkAnswer, WorkError};

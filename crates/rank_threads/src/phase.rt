@@ -7,7 +7,8 @@ ghost use Rattle.rank_threads.specs.declared.work.Work.{Work as TheWork};
 ghost use Rattle.rank_threads.specs.Answered.{IsDepositTold};
 ghost use Rattle.phased_board.specs.Begun.{IsEndTold};
 ghost use Rattle.rank_threads.specs.Asking.{AreLaid, AreServed, IsRoomFor, askings};
-ghost use Rattle.export_rounds.specs.Going.{WentOnBy};
+ghost use Rattle.phased_board.specs.Going.{WentOnBy, WentOnWithStops};
+ghost use Rattle.phased_board.specs.Stops.{ranks_of};
 ghost use Rattle.rank_threads.specs.Serving.{IsDeposited};
 ghost use Rattle.rank_threads.specs.Ways.{At, Way, hands_of, own_ranks};
 ghost use Rattle.proof_names.specs.Numbers.{AreApart};
@@ -17,11 +18,10 @@ use crate::desk::{AskedRank, Desk, Done, Serving};
 use crate::route::{OwnRank, Route};
 use crate::work::{Work, WorkAnswer};
 use authority_map::Publisher;
-use export_rounds::Gate;
 use heat_ledger::Share;
 use mds_board::{Board, BoardError};
 use mds_types::Rank;
-use phased_board::{Known, Phase, PhaseNames, Phased, first_refusal};
+use phased_board::{Gate, Known, Phase, PhaseNames, Phased, first_refusal};
 use proof_names::Naming;
 use std::alloc::{AllocError, AllocFailed, Global};
 use std::marker::{Brand, Send, Sync};
@@ -237,19 +237,20 @@ impl<
 
     // Serves the requests of all ranks, while this thread does something else, and then deposits each share's hits, in
     // rank order.
-    fn serve_all<'s, W: Route + Send + 's, F: FnOnce(), E>(
+    fn serve_all<'s, W: Route + Send + 's, F: FnOnce() -> T, T: Drop, E>(
         &'s self,
         scope: &Scope<'s, E>,
         scripts: &'s [Vec<Work>],
         laid: Laid<J, W, K>,
         meanwhile: F,
-    ) -> Joined<J, W, K>
+    ) -> (Joined<J, W, K>, T)
         requires requests { K.requests ≡ true }
         requires laid { AreLaid scripts.now laid.shares (vec_len laid.ways) laid.rooms laid.asked }
         requires meanwhile { F.IsAlwaysCallable meanwhile }
-        ensures { AreServed J.limit K.before result.known.seen laid.shares.items (map W.way laid.ways.items)
-            (map (λ s. s.items) scripts.now) (map (λ a. a.items) result.answers.items) result.shares.items
-            (map W.way result.ways.items) result.deposited }
+        ensures served { AreServed J.limit K.before result.0.known.seen laid.shares.items (map W.way laid.ways.items)
+            (map (λ s. s.items) scripts.now) (map (λ a. a.items) result.0.answers.items) result.0.shares.items
+            (map W.way result.0.ways.items) result.0.deposited }
+        ensures meanwhile { F.post meanwhile result.1 }
     {
         let Laid {
             shares,
@@ -257,7 +258,7 @@ impl<
             rooms,
             asked,
         } = self.ask_all(scope, scripts, laid);
-        meanwhile();
+        let done = meanwhile();
         let ranks = Joined {
             shares,
             ways,
@@ -265,12 +266,12 @@ impl<
             deposited: Ok(()),
             known: self.cell.lock(self.rt).look(),
         };
-        self.join_all(asked, ranks)
+        (self.join_all(asked, ranks), done)
     }
 }
 
 /// Serves the requests of all ranks, each rank's by a thread of its own, while this thread does something else, and
-/// deposits each share's hits.
+/// deposits each share's hits. It returns what came of this thread's work, too.
 pub fn serve_ranks<
     'a,
     J: Naming + Send + Sync,
@@ -279,7 +280,8 @@ pub fn serve_ranks<
     K: Phase + Send + Sync,
     R: Threads + Wait + Sync,
     G: Gate + Sync,
-    F: FnOnce(),
+    F: FnOnce() -> T,
+    T: Drop,
 >(
     rt: &'a R,
     alloc: Global,
@@ -288,24 +290,27 @@ pub fn serve_ranks<
     scripts: &'a [Vec<Work>],
     laid: Laid<J, W, K>,
     meanwhile: F,
-) -> Joined<J, W, K>
+) -> (Joined<J, W, K>, T)
     requires requests { K.requests ≡ true }
     requires laid { AreLaid scripts.now laid.shares (vec_len laid.ways) laid.rooms laid.asked }
     requires meanwhile { F.IsAlwaysCallable meanwhile }
-    ensures { AreServed J.limit K.before result.known.seen laid.shares.items (map W.way laid.ways.items)
-        (map (λ s. s.items) scripts.now) (map (λ a. a.items) result.answers.items) result.shares.items
-        (map W.way result.ways.items) result.deposited }
+    ensures served { AreServed J.limit K.before result.0.known.seen laid.shares.items (map W.way laid.ways.items)
+        (map (λ s. s.items) scripts.now) (map (λ a. a.items) result.0.answers.items) result.0.shares.items
+        (map W.way result.0.ways.items) result.0.deposited }
+    ensures meanwhile { F.post meanwhile result.1 }
 {
     let serving = Serving::new(rt, alloc, cell, gate);
     thread::scope(
         thread::scope_env(),
         rt,
-        |scope| -> Joined<J, W, K>
+        |scope| -> (Joined<J, W, K>, T)
             requires { AreLaid scripts.now laid.shares (vec_len laid.ways) laid.rooms laid.asked
                 × F.IsAlwaysCallable meanwhile × (K.requests ≡ true) }
-            ensures { AreServed J.limit K.before result.known.seen laid.shares.items (map W.way laid.ways.items)
-                (map (λ s. s.items) scripts.entry.now) (map (λ a. a.items) result.answers.items) result.shares.items
-                (map W.way result.ways.items) result.deposited }
+            ensures served { AreServed J.limit K.before result.0.known.seen laid.shares.items
+                (map W.way laid.ways.items) (map (λ s. s.items) scripts.entry.now)
+                (map (λ a. a.items) result.0.answers.items) result.0.shares.items (map W.way result.0.ways.items)
+                result.0.deposited }
+            ensures meanwhile { F.post meanwhile result.1 }
         { serving.serve_all(scope, scripts, laid, meanwhile) },
     )
 }
@@ -363,7 +368,7 @@ pub fn close<J: Naming, M: Publisher<J>, W: Route, K: Phase>(
 ) -> (Phased<J, M, K>, Ranks<J>, Vec<W>)
     requires requests { K.requests ≡ true }
     requires first { first ≡ length K.before.history }
-    ensures went { WentOnBy K.requests K.exports K.before result.0 }
+    ensures went { WentOnWithStops K.requests K.exports (ranks_of K.stops) K.before result.0 }
     ensures served { (shares : List ShareData) (ways : List Way) (scripts : List (List TheWork))
         → AreServed J.limit K.before joined.known.seen shares ways scripts (map (λ a. a.items) joined.answers.items)
         joined.shares.items (map W.way joined.ways.items) joined.deposited → AreServed J.limit K.before result.0.history
@@ -411,6 +416,7 @@ fn serve_named<
     requires orders { K.orders ≡ [] }
     requires requests { K.requests ≡ true }
     requires exports { K.exports ≡ false }
+    requires stops { K.stops ≡ [] }
     requires log { names.log ≡ K.log }
     requires tickets { names.tickets ≡ K.numbers }
     requires few { length scripts.now ≤ 64 }
@@ -435,7 +441,7 @@ fn serve_named<
     let first = board.history().len();
     let phased = Phased::<J, M, K>::new(board, Vec::new(alloc), false, names);
     let cell = Mutex::new(phased);
-    let joined = serve_ranks(rt, alloc, &cell, gate, scripts, laid, || {});
+    let (joined, ()) = serve_ranks(rt, alloc, &cell, gate, scripts, laid, || {});
     let (phased, ranks, _ways) = close(alloc, cell.into_inner(), first, joined);
     let (board, _standings) = phased.into_parts();
     (board, Ok(ranks))

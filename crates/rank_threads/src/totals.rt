@@ -1,6 +1,6 @@
 //! The requests of all ranks, for a caller that has all shares of the ledger.
 ghost use Rattle.std.specs.Prelude.{◌≡◌, ◌≤◌, IfErr, IfOk, OnErr, false, length, map, true, vec_len};
-ghost use Rattle.export_rounds.specs.Going.{WentOnBy};
+ghost use Rattle.phased_board.specs.Going.{WentOnBy};
 ghost use Rattle.heat_ledger.specs.Ledger.{weight_of};
 ghost use Rattle.phased_board.specs.Begun.{IsEndTold};
 ghost use Rattle.rank_threads.specs.Asking.{AreServed};
@@ -10,9 +10,9 @@ ghost use Rattle.rank_threads.specs.Ways.{own_ranks};
 use crate::phase::{Ranks, serve_phase};
 use crate::work::Work;
 use authority_map::Publisher;
-use export_rounds::Gate;
 use heat_ledger::Share;
 use mds_board::Board;
+use phased_board::Gate;
 use proof_names::Naming;
 use std::alloc::{AllocFailed, Global};
 use std::marker::{Send, Sync};

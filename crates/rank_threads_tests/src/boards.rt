@@ -1,12 +1,11 @@
 //! Boards of several ranks, and phases on them.
 use crate::gates::JitterGate;
 use authority_map::Publisher;
-use export_threads::Outcome;
 use heat_ledger::Share;
 use mds_board::{Board, Shown};
 use mds_types::{Dir, Dirs, Order, Rank};
 use proof_names::Naming;
-use rank_threads::{Gate, Ranks, Work, WorkAnswer, serve_phase};
+use rank_threads::{Gate, Outcome, Ranks, Work, WorkAnswer, serve_phase};
 use std::alloc::{AllocError, Global};
 use std::marker::{Send, Sync};
 use std::sync::Wait;

@@ -8,11 +8,12 @@ ghost use Rattle.std.specs.Prelude.{◌≡◌, ◌≤◌};
 use crate::moves::Act;
 use crate::phase::Seats;
 use crate::same::Sure;
-use crate::{many, moves, refused, scarce, traffic};
+use crate::stops::Row;
+use crate::{many, moves, refused, scarce, stops, traffic};
 use authority_map::{MapReader, MapWriter, NewMap, Publisher};
-use export_rounds::Unsettled;
 use heat_ledger::{NewBook, Share};
 use mds_board::{Board, BoardParts};
+use phased_board::Unsettled;
 use proof_names::Naming;
 use std::alloc::{AllocError, Global};
 use std::marker::{Brand, Send, Sync};
@@ -37,6 +38,10 @@ pub(crate) enum Trial {
     ByMap,
     /// Requests for a caller that has all shares.
     Totals,
+    /// A rank stops while a directory moves.
+    Stops(Row),
+    /// A rank stops while its request runs.
+    StopAtWork,
     /// Requests and an export while a growth or threads are refused, and how many of them may not be done.
     Scarce(u32),
 }
@@ -100,6 +105,8 @@ fn try_on<J: Naming + Send + Sync, M: Publisher<J> + Send, R: Abort + Threads + 
         Trial::AtOnce(rank) => traffic::serve_and_move(rt, alloc, board, seats, rank),
         Trial::ByMap => traffic::ask_by_map(rt, alloc, board, seats),
         Trial::Totals => panic!(rt; "its board is its own"),
+        Trial::Stops(row) => stops::stop_one(rt, alloc, board, row),
+        Trial::StopAtWork => stops::stop_at_work(rt, alloc, board, seats),
         Trial::Scarce(most) => scarce::serve_and_move(rt, alloc, board, seats, most),
     }
 }

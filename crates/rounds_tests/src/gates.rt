@@ -1,8 +1,8 @@
 //! Gates at which threads wait or give way, each for requests and for rounds: the numbers of requests begin at 0, and
 //! those of rounds at 1.
 
-use export_rounds::Gate;
 use mds_types::Rank;
+use phased_board::Gate;
 use std::sync::atomic::{AtomicU64, Ordering};
 use std::thread;
 

@@ -20,4 +20,6 @@ mod scarce;
 #[cfg(test)]
 mod steps;
 #[cfg(test)]
+mod stops;
+#[cfg(test)]
 mod traffic;

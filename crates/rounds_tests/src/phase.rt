@@ -1,17 +1,17 @@
 //! A phase of requests and exports, and what it leaves.
 
 use authority_map::{MapReader, Publisher};
-use export_rounds::{Gate, Unsettled};
 use heat_ledger::Share;
 use mds_board::Board;
 use mds_types::{Dir, Kind};
+use phased_board::{Gate, Unsettled};
 use proof_names::Naming;
+use rank_threads::{Outcome, Tasks, Traffic, Work, WorkAnswer, traffic_phase};
 use std::alloc::{AllocError, Global};
 use std::marker::{Send, Sync};
 use std::process::Abort;
 use std::sync::Wait;
 use std::thread::Threads;
-use traffic_threads::{Outcome, Tasks, Traffic, Work, WorkAnswer, traffic_phase};
 
 /// What is kept from one phase to the next beside the board.
 #[derive(Drop)]
@@ -119,8 +119,9 @@ fn taken<J: Naming>(
         ranks,
         readers,
         outcomes,
+        stopped,
     } = left;
-    assert!(rt; ranks.ended.is_ok());
+    assert!(rt; ranks.ended.is_ok() && stopped.is_ok());
     let told = Told {
         answers: ranks.answers,
         outcomes,

@@ -10,17 +10,15 @@ use crate::same::{Sure, holds_in};
 use crate::steps::{rank, stand};
 use crate::traffic::MOVE;
 use authority_map::Publisher;
-use export_threads::{OpenGate, Outcome};
 use mds_board::{Board, BoardError};
 use mds_types::Dir;
 use proof_names::Naming;
-use rank_threads::WorkError;
+use rank_threads::{OpenGate, Outcome, Tasks, Work, WorkAnswer, WorkError};
 use std::alloc::{AllocError, Global};
 use std::marker::{Send, Sync};
 use std::process::Abort;
 use std::sync::Wait;
 use std::thread::Threads;
-use traffic_threads::{Tasks, Work, WorkAnswer};
 
 fn scripts_at_last(alloc: Global) -> Result<Vec<Vec<Work>>, AllocError> {
     let rows = [(0, 3), (0, 2)];
@@ -65,6 +63,7 @@ pub(crate) fn serve_and_move<
     let tasks = Tasks {
         scripts: &scripts,
         orders: &orders,
+        stops: &[],
     };
     let (after, mut seats, told) = phase(rt, alloc, board, seats, tasks, &OpenGate);
     let lacking = lacking(rt, &told);

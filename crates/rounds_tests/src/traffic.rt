@@ -8,18 +8,17 @@ use crate::phase::{Seats, phase, scripts, total};
 use crate::same::{Sure, holds_in, same};
 use crate::steps::{Do, make, moved, orders, play, rank};
 use authority_map::{Found, MapReader, Publisher};
-use export_rounds::Unsettled;
-use export_threads::Outcome;
 use heat_ledger::Share;
 use mds_board::{Board, BoardParts, History, Shown};
 use mds_types::{Dir, Kind};
+use phased_board::Unsettled;
 use proof_names::Naming;
+use rank_threads::{Outcome, Tasks, traffic_with_totals};
 use std::alloc::Global;
 use std::marker::{Send, Sync};
 use std::process::Abort;
 use std::sync::Wait;
 use std::thread::Threads;
-use traffic_threads::{Tasks, traffic_with_totals};
 
 /// Directory 1 goes from rank 0 to rank 1.
 pub(crate) const MOVE: &[(u8, u8, u32)] = &[(0, 1, 1)];
@@ -39,6 +38,7 @@ pub(crate) fn hold<
     let tasks = Tasks {
         scripts: &scripts,
         orders: &orders,
+        stops: &[],
     };
     let gate = HeldGate::new();
     let (board, _seats, told) = phase(rt, alloc, board, seats, tasks, &gate);
@@ -96,6 +96,7 @@ pub(crate) fn serve_and_move<
     let tasks = Tasks {
         scripts: &scripts,
         orders: &orders,
+        stops: &[],
     };
     let (mut board, mut seats, told) = phase(rt, alloc, board, seats, tasks, &JitterGate);
     holds_in(rt, is_started(&told.outcomes), &told.outcomes);
@@ -143,6 +144,7 @@ pub(crate) fn ask_by_map<
     let tasks = Tasks {
         scripts: &scripts,
         orders: &[],
+        stops: &[],
     };
     let (board, _seats, told) = phase(rt, alloc, board, seats, tasks, &JitterGate);
     same(rt, &total(&told.answers), &(3, 1));
@@ -169,6 +171,7 @@ fn serve_whole<J: Naming + Send + Sync, M: Publisher<J> + Send, R: Abort + Threa
     let tasks = Tasks {
         scripts: &scripts,
         orders: &[],
+        stops: &[],
     };
     let mut none = Unsettled::new(alloc);
     let gate = &JitterGate;

@@ -14,13 +14,6 @@ use Rattle.script_board.specs.declared.fault.Fault.{Fault}
 use Rattle.script_board.specs.declared.load.Load.{Load}
 use Rattle.script_board.specs.Serve.{IsDealt, asked_rank, met, place, places_after, refusal_at, refusals, script_at, work_of, works_at}
 
--- no rank has a request
-pub empty_more : (scripts : List (List Work)) → ((rank : ℕ) → script_at scripts rank ≡ []) → (rank : ℕ) → script_at (scripts ++ [] ∷ []) rank ≡ []
-empty_more [] none zero = refl
-empty_more [] none (suc rank) = refl
-empty_more (s ∷ scripts) none zero = none zero
-empty_more (s ∷ scripts) none (suc rank) = empty_more scripts (λ r. none (suc r)) rank
-
 works_more : (w : World) (ranks rank : ℕ) (ls : List Load) (l : Load)
     → works_at w ranks rank (ls ++ l ∷ []) ≡ works_at w ranks rank ls ++ cond (asked_rank w ranks l.dir == rank) (work_of l ∷ []) []
 works_more w ranks rank [] l = elim (asked_rank w ranks l.dir == rank) as (λ v. map work_of (cond v (l ∷ []) []) ≡ cond v (work_of l ∷ []) []) [

@@ -1,7 +1,5 @@
 -- The directories that paths name, one after another, and a request that is counted.
-use Rattle.std.proofs.Common.{◌≡◌, ℕ, ◌<◌, ◌+◌, List, [], ◌∷◌, ◌++◌, length, set, get_or, refl, sym, ap, ◌∙◌, arith, Result, Ok, Err}
-use Rattle.std.proofs.lemmas.List.Sums.{sum_by-set}
-use Rattle.heat_ledger.specs.Ledger.{ShareData, weight_of}
+use Rattle.std.proofs.Common.{◌≡◌, ℕ, ◌<◌, ◌+◌, List, [], ◌∷◌, ◌++◌, refl, sym, ◌∙◌, Result, Ok, Err}
 use Rattle.script_board.specs.declared.fault.Fault.{Fault}
 use Rattle.script_board.specs.Board.{BoardData}
 use Rattle.script_board.specs.Commands.{◌>>=◌, find}
@@ -33,9 +31,3 @@ find_all_end b (first ∷ paths) more path ds e before refused =
       ] refl h
       | Err f ↦ λ bad. cc
     ] before
-
--- a share that is put in place of one of its weight leaves the weight of all
-pub weight_stays : (shares : List ShareData) (k : ℕ) (share d : ShareData) → k < length shares → share.weight ≡ (let was : ShareData = get_or shares k d in was.weight) → weight_of (set shares k share) ≡ weight_of shares
-weight_stays shares k share d inside same =
-    let sums = sum_by-set (λ (s : ShareData). s.weight) shares k share d inside in
-    omega (arith, sums, same)

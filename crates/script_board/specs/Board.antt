@@ -1,5 +1,7 @@
--- What a script has made: the board, the shares of its ledger, the requests that wait, and the orders that were kept.
+-- What a script has made: the board, the shares of its ledger, the requests that wait, the orders that were kept, and
+-- the ranks that are to stop.
 use Rattle.std.specs.Prelude.{◌≡◌, ℕ, ◌<◌, ◌≤◌, List, [], length, replicate, true}
+use Rattle.phased_board.specs.declared.breaks.RankStop.{RankStop}
 use Rattle.heat_ledger.specs.Ledger.{ShareData, weight_of}
 use Rattle.heat_ledger.specs.Opening.{fresh_share}
 use Rattle.mds_types.specs.declared.order.Order.{Order}
@@ -7,12 +9,14 @@ use Rattle.mds_board.specs.State.{first_operations, start}
 use Rattle.mds_board.specs.History.{World}
 use Rattle.script_board.specs.declared.load.Load.{Load}
 
--- share k is the one of rank k; kept are the orders of the last plan, until they are carried out or forgotten
+-- Share k is the one of rank k. Kept are the orders of the last plan, until they are carried out or forgotten. The
+-- ranks of `stops` stop in the next `move` or `traffic`, each before its round.
 pub record BoardData : Type 0 where
   pub world : World
   pub shares : List ShareData
   pub loads : List Load
   pub kept : List Order
+  pub stops : List RankStop
 
 -- only the root at rank 0, without pin, heat, hit, mask or request; the map's first operation is published
 abbrev pub empty_board : ℕ → ℕ → BoardData
@@ -27,6 +31,7 @@ empty_board limit active = record {
   shares = replicate active (fresh_share limit);
   loads = [];
   kept = [];
+  stops = [];
 }
 
 -- readers see all operations on the map

@@ -4,6 +4,7 @@ use Rattle.std.specs.Prelude.{codes, Option, Some, None, Result, Ok, Err}
 use Rattle.dirtree.specs.declared.tree_error.TreeError.{TreeError}
 use Rattle.dirtree.specs.declared.tree_error.TreeError.TheVariants.{BadName}
 use Rattle.dirtree.specs.Path as path
+use Rattle.export_protocol.specs.Step.{no_rank}
 use Rattle.export_protocol.specs.declared.event.Event.TheVariants.{Stop, Restart}
 use Rattle.mds_types.specs.declared.kind.Kind.{Kind}
 use Rattle.mds_types.specs.Mask.{mask_bits}
@@ -16,6 +17,7 @@ use Rattle.script_board.specs.declared.fault.Fault.{Fault}
 use Rattle.script_board.specs.declared.fault.Fault.TheVariants as fault
 use Rattle.script_board.specs.Board.{BoardData}
 use Rattle.script_board.specs.Fault.{tree_fault, unless}
+use Rattle.script_board.specs.Looks.{refused_step}
 
 infixl 10 ◌>>=◌
 abbrev pub ◌>>=◌ : {A B : Type 0} → Result A Fault → (A → Result B Fault) → Result B Fault
@@ -92,3 +94,9 @@ stop b rank = changed b (Step (Stop rank))
 
 abbrev pub restart : BoardData → ℕ → Result BoardData Fault
 restart b rank = changed b (Step (Restart rank))
+
+-- an active rank is to stop before this round of the next `move` or `traffic`
+abbrev pub fail : BoardData → ℕ → ℕ → Result BoardData Fault
+fail b rank round =
+    unless (refused_step (no_rank b.world.state.cluster rank))
+    (record b { stops = b.stops ++ record { rank = rank; round = round } ∷ [] })

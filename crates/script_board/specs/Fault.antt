@@ -1,5 +1,5 @@
 -- Why a line is faulty.
-use Rattle.std.specs.Prelude.{◌≡◌, ◌⊎◌, Bool, true, false, Option, Some, None, Result, Ok, Err, IsOk}
+use Rattle.std.specs.Prelude.{◌≡◌, ◌⊎◌, Bool, true, false, List, [], ◌∷◌, Option, Some, None, Result, Ok, Err, IsOk}
 use Rattle.dirtree.specs.declared.tree_error.TreeError.{TreeError}
 use Rattle.dirtree.specs.declared.tree_error.TreeError.TheVariants as tree
 use Rattle.heat_ledger.specs.declared.hit_error.HitError.TheVariants as hit
@@ -40,13 +40,14 @@ abbrev pub unless : {A : Type 0} → Option BoardError → A → Result A Fault
 unless None x = Ok x
 unless (Some e) x = Err (board_fault e)
 
+-- the refusal, if there is one
+abbrev pub unless_done : Result Unit BoardError → List Fault
+unless_done (Ok done) = []
+unless_done (Err error) = board_fault error ∷ []
+
 -- the fault is the one that is due, or `Memory` where none is
 abbrev pub IsDue : {A : Type 0} → Result A Fault → Fault → Type 0
 IsDue due fault = (due ≡ Err fault) ⊎ ((fault ≡ Memory) × IsOk due)
-
--- the same of a line, which may also have found no room for its fields, whatever it says
-abbrev pub IsDueOrNoRoom : {A : Type 0} → Result A Fault → Fault → Type 0
-IsDueOrNoRoom due fault = IsDue due fault ⊎ (fault ≡ Memory)
 
 abbrev pub is_memory : Fault → Bool
 is_memory Memory = true

@@ -3,7 +3,7 @@ use Rattle.std.specs.List.{list_any}
 use Rattle.std.specs.Option.{option_map}
 use Rattle.std.specs.Prelude.{◌≡◌, ℕ, ◌<◌, ◌+◌, ◌==◌, nat_lt, if◌then◌else◌, Bool, not, List, [], ◌∷◌, ◌++◌}
 use Rattle.std.specs.Prelude.{false, filter, length, map, slice_get, slice_index_or, true}
-use Rattle.std.specs.Prelude.{Option, Some, None, Result, Ok, Err}
+use Rattle.std.specs.Prelude.{Option, Some, None, Result}
 use Rattle.authority_map.specs.Operations.{rank_after}
 use Rattle.dirtree.specs.Tree as tree
 use Rattle.heat_ledger.specs.Ledger.{pending_of}
@@ -12,7 +12,9 @@ use Rattle.mds_board.specs.declared.board_error.BoardError.{BoardError}
 use Rattle.mds_board.specs.History.{World}
 use Rattle.rank_threads.specs.declared.work.Work.{Work}
 use Rattle.rank_threads.specs.declared.work.WorkAnswer.{WorkAnswer}
-use Rattle.export_rounds.specs.Going.{WentOnBy}
+use Rattle.phased_board.specs.declared.breaks.RankStop.{RankStop}
+use Rattle.phased_board.specs.Going.{WentOnWithStops}
+use Rattle.phased_board.specs.Stops.{ranks_of}
 use Rattle.phased_board.specs.Begun.{IsEndTold}
 use Rattle.rank_threads.specs.Asking.{AreServed}
 use Rattle.rank_threads.specs.Serving.{begun_on, hits_on}
@@ -22,7 +24,7 @@ use Rattle.script_board.specs.declared.dealing.Seat.{Seat}
 use Rattle.script_board.specs.declared.fault.Fault.{Fault}
 use Rattle.script_board.specs.declared.load.Load.{Load}
 use Rattle.script_board.specs.Board.{BoardData}
-use Rattle.script_board.specs.Fault.{board_fault, is_memory, work_fault}
+use Rattle.script_board.specs.Fault.{is_memory, unless_done, work_fault}
 
 -- A request waits until it is served or its directory is removed.
 abbrev pub waiting : BoardData → List Load
@@ -87,16 +89,12 @@ abbrev pub refusals : List (List WorkAnswer) → List Seat → List Fault
 refusals answers [] = []
 refusals answers (seat ∷ seats) = met (refusal_at answers seat) ++ refusals answers seats
 
-abbrev pub unless_done : Result Unit BoardError → List Fault
-unless_done (Ok done) = []
-unless_done (Err error) = board_fault error ∷ []
-
 -- The waiting requests were served and the shares deposited, by a thread a rank, which finds the rank to ask in its
--- way; exports may have gone on meanwhile. Each request has an answer, which is what the board said when it was asked;
--- the shares count what the answers name, the hits of each kind by themselves; and these refusals were met: those of
--- requests in the order of their loads, the first of an end, and the first of a deposit.
-pub record IsServedBy (exports : Bool) (ways later : List Way) (old : BoardData) (refused : List Fault)
-    (new : BoardData) : Type 0 where
+-- way; exports may have gone on and ranks stopped meanwhile. Each request has an answer, which is what the board said
+-- when it was asked; the shares count what the answers name, the hits of each kind by themselves; and these refusals
+-- were met: those of requests in the order of their loads, the first of an end, and the first of a deposit.
+pub record IsServedBy (exports : Bool) (stops : List RankStop) (ways later : List Way) (old : BoardData)
+    (refused : List Fault) (new : BoardData) : Type 0 where
   pub scripts : List (List Work)
   pub seats : List Seat
   pub answers : List (List WorkAnswer)
@@ -106,7 +104,7 @@ pub record IsServedBy (exports : Bool) (ways later : List Way) (old : BoardData)
   pub served : AreServed old.world.state.directories.limit old.world new.world.history old.shares ways scripts answers
       new.shares later deposited
   pub end_told : IsEndTold old.world new.world ended
-  pub went : WentOnBy true exports old.world new.world
+  pub went : WentOnWithStops true exports (ranks_of stops) old.world new.world
   pub begun : (d : ℕ) → d < old.world.state.directories.limit → at new.world.state.begun d
       ≡ at old.world.state.begun d + over_ranks (begun_on d) scripts answers
   pub counted : (e : ℕ) → e < old.world.state.directories.limit + old.world.state.directories.limit
@@ -117,11 +115,12 @@ pub record IsServedBy (exports : Bool) (ways later : List Way) (old : BoardData)
 -- The waiting requests were served, each at its thread's own rank.
 abbrev pub IsServed : BoardData → List Fault → BoardData → Type 0
 IsServed old refused new =
-    IsServedBy false (own_ranks 0 (length old.shares)) (own_ranks 0 (length old.shares)) old refused new
+    IsServedBy false [] (own_ranks 0 (length old.shares)) (own_ranks 0 (length old.shares)) old refused new
 
--- The waiting requests were served, and none waits any more.
+-- The waiting requests were served, and none waits any more. Orders and stops wait on.
 abbrev pub IsGone : BoardData → List Fault → BoardData → Type 0
-IsGone old refused new = IsServed old refused new × (new.loads ≡ []) × (new.kept ≡ old.kept)
+IsGone old refused new =
+    IsServed old refused new × (new.loads ≡ []) × (new.kept ≡ old.kept) × (new.stops ≡ old.stops)
 
 -- Memory sufficed for all that `go` or `traffic` did, unless a refusal says otherwise.
 abbrev pub is_ample : List Fault → Bool

@@ -1,14 +1,17 @@
 -- What `traffic` does: the waiting requests are served while orders are carried out.
-use Rattle.std.specs.Prelude.{◌≡◌, ◌⊎◌, true, All, List, [], length, map}
+use Rattle.std.specs.Prelude.{◌≡◌, ◌⊎◌, true, All, List, [], ◌++◌, Result, length, map}
 use mathlib.Core.List.{IsPrefix}
 use Rattle.authority_map.specs.Operations.{Operation}
-use Rattle.export_rounds.specs.Outcomes.{AreAll, AreOutcomes}
-use Rattle.export_rounds.specs.declared.outcome.Outcome.{Outcome}
+use Rattle.phased_board.specs.Outcomes.{AreAll, AreOutcomes}
+use Rattle.phased_board.specs.declared.outcome.Outcome.{Outcome}
+use Rattle.phased_board.specs.Stops.{AreStopped}
+use Rattle.mds_board.specs.declared.board_error.BoardError.{BoardError}
 use Rattle.mds_board.specs.History.{World}
 use Rattle.mds_types.specs.declared.order.Order.{Order}
 use Rattle.rank_threads.specs.Ways.{ByMap}
 use Rattle.script_board.specs.declared.fault.Fault.{Fault}
 use Rattle.script_board.specs.Board.{BoardData}
+use Rattle.script_board.specs.Fault.{unless_done}
 use Rattle.script_board.specs.Move.{move_orders}
 use Rattle.script_board.specs.Serve.{IsServedBy}
 
@@ -20,17 +23,23 @@ pub record AreInformed (old new : World) (held later : List (List Operation)) : 
 
 -- The waiting requests were served by a thread a rank, each request at the rank that the thread's own reader of the map
 -- found for its directory at that moment. Meanwhile the orders of `move` were carried out: each has its outcome, and no
--- other export was started. The history goes on only by events of requests, of deposits and of exports, and only
--- exports that this traffic started are aborted. No request waits any more, and no order is kept.
+-- other export was started. The history goes on only by events of requests, of deposits and of exports and by the stops
+-- that were asked for, and only exports that this traffic started are aborted. Each of the ranks stopped, or why one
+-- didn't is the last refusal. No request waits any more, no order is kept, and no rank is to stop.
 pub record IsTraffic (old : BoardData) (refused : List Fault) (carried : List Order) (told : List Outcome)
     (new : BoardData) : Type 0 where
   pub held : List (List Operation)
   pub later : List (List Operation)
   pub readers : length held ≡ length old.shares
   pub informed : AreInformed old.world new.world held later
-  pub served : IsServedBy true (map ByMap held) (map ByMap later) old refused new
+  pub met : List Fault
+  pub stopped : Result Unit BoardError
+  pub served : IsServedBy true old.stops (map ByMap held) (map ByMap later) old met new
+  pub stop : AreStopped 8 old.world new.world.history old.stops stopped
+  pub all_met : refused ≡ met ++ unless_done stopped
   pub orders : carried ≡ move_orders old
   pub outcomes : AreOutcomes old.world new.world carried told
   pub all : AreAll old.world new.world told
   pub waits : new.loads ≡ []
   pub forgotten : new.kept ≡ []
+  pub used : new.stops ≡ []

@@ -1,19 +1,21 @@
 //! The commands that change the board.
 ghost use Rattle.std.specs.Prelude.{◌≡◌, ◌<◌, IfErr, IfOk, OnErr, OnOk, Ok, Err, true};
 ghost use Rattle.dirtree.specs.Tree.{is_there};
-ghost use Rattle.script_board.specs.Commands.{find, load, make_dir, parent_path, remove_dir, replanned};
+ghost use Rattle.script_board.specs.Commands.{fail, find, load, make_dir, parent_path, remove_dir, replanned};
 ghost use Rattle.script_board.specs.Commands.{restart, set_mask, set_pin, set_weights, stop, tick};
 ghost use Rattle.script_board.specs.Fault.{IsDue};
 
 use crate::fault::Fault;
 use crate::load::Load;
+use crate::looks::has_rank;
 use crate::script_board::ScriptBoard;
 use authority_map::Publisher;
 use dirtree::TreeError;
-use export_protocol::Event;
-use mds_board::Change;
+use export_protocol::{Event, StepError};
+use mds_board::{BoardError, Change};
 use mds_types::{Dir, Kind, Rank, RankSet};
 use proof_names::Naming;
+use rank_threads::RankStop;
 use std::alloc::Global;
 
 impl<J: Naming, M: Publisher<J>> ScriptBoard<J, M> {
@@ -148,6 +150,20 @@ impl<J: Naming, M: Publisher<J>> ScriptBoard<J, M> {
         ensures unchanged { OnErr result (self.new ≡ self.old) }
     {
         self.board.step(alloc, Event::Stop(rank))?;
+        Ok(())
+    }
+
+    /// An active rank stops before a round of the next `move` or `traffic`.
+    pub fn fail(&mut self, rank: Rank, round: u8) -> Result<(), Fault>
+        ensures done { OnOk result (fail self.old rank round ≡ Ok self.new) }
+        ensures fault { IfErr result (IsDue (fail self.old rank round)) }
+        ensures unchanged { OnErr result (self.new ≡ self.old) }
+    {
+        if !has_rank(&self.board, rank) {
+            return Err(Fault::from(BoardError::Step(StepError::NoRank)));
+        }
+        let round = u64::from(round);
+        self.stops.push(RankStop { rank, round })?;
         Ok(())
     }
 

@@ -1,7 +1,8 @@
-//! What a script has made: a board with the shares of its ledger, the requests that wait, and the orders of the last
-//! plan; and what each command of a script does to it.
+//! What a script has made: a board with the shares of its ledger, the requests that wait, the orders of the last
+//! plan, and the ranks that are to stop; and what each command of a script does to it.
 #![tactic(auto)]
 
+pub mod carried;
 mod commands;
 mod cost;
 mod dealing;
@@ -20,9 +21,9 @@ mod stat;
 mod steps;
 pub mod traffic;
 
+pub use carried::Carried;
 pub use export_fact::ExportFact;
 pub use fault::Fault;
 pub use load::Load;
 pub use parts::Parts;
 pub use script_board::ScriptBoard;
-pub use traffic::Carried;

@@ -148,8 +148,8 @@ fn facts_of<J: Naming, M: Publisher<J>>(
     Ok(facts)
 }
 
-// Whether a rank is active.
-fn has_rank<J: Naming, M: Publisher<J>>(board: &Board<J, M>, rank: Rank) -> bool
+/// Whether a rank is active.
+pub(crate) fn has_rank<J: Naming, M: Publisher<J>>(board: &Board<J, M>, rank: Rank) -> bool
     ensures { result ≡ nat_lt rank board.now.state.cluster.ranks }
 {
     board.promises();

@@ -1,16 +1,16 @@
 //! A script's board.
 ghost use Rattle.std.specs.Prelude.{◌≡◌, ◌≤◌, IfOk, MatchBool};
-ghost use Rattle.script_board.specs.Board.{empty_board, publish};
+ghost use Rattle.script_board.specs.Board.{IsBoard, empty_board, publish};
 
 use crate::load::Load;
 use crate::parts::Parts;
 use authority_map::{MapReader, Publisher};
 use dirtree::PathGuesses;
-use export_threads::Unsettled;
 use heat_ledger::Share;
 use mds_board::Board;
 use mds_types::Order;
 use proof_names::Naming;
+use rank_threads::{RankStop, Unsettled};
 use std::alloc::Global;
 use std::marker::Model;
 
@@ -42,6 +42,7 @@ pub struct ScriptBoard<J: Naming, M: Publisher<J>> {
     pub(crate) reader: MapReader<J>,
     pub(crate) loads: Vec<Load>,
     pub(crate) kept: Vec<Order>,
+    pub(crate) stops: Vec<RankStop>,
     pub(crate) shortcuts: Shortcuts,
 }
 
@@ -55,6 +56,7 @@ impl<J: Naming, M: Publisher<J>> Model for ScriptBoard<J, M> {
       shares = b.shares.items;
       loads = b.loads.items;
       kept = b.kept.items;
+      stops = b.stops.items;
     } };
 
     ghost invariant = { λ b. IsBoard (record {
@@ -62,7 +64,43 @@ impl<J: Naming, M: Publisher<J>> Model for ScriptBoard<J, M> {
       shares = b.shares.items;
       loads = b.loads.items;
       kept = b.kept.items;
+      stops = b.stops.items;
     }) };
+}
+
+/// The board of these parts and of what waits: requests, orders and stops.
+pub(crate) fn whole<J: Naming, M: Publisher<J>>(
+    board: Board<J, M>,
+    shares: Vec<Share<J>>,
+    reader: MapReader<J>,
+    waiting: (Vec<Load>, Vec<Order>, Vec<RankStop>),
+    shortcuts: Shortcuts,
+) -> ScriptBoard<J, M>
+    requires fits { IsBoard (record {
+      world = board;
+      shares = shares.items;
+      loads = waiting.0.items;
+      kept = waiting.1.items;
+      stops = waiting.2.items;
+    }) }
+    ensures { result ≡ record {
+      world = board;
+      shares = shares.items;
+      loads = waiting.0.items;
+      kept = waiting.1.items;
+      stops = waiting.2.items;
+    } }
+{
+    let (loads, kept, stops) = waiting;
+    ScriptBoard {
+        board,
+        shares,
+        reader,
+        loads,
+        kept,
+        stops,
+        shortcuts,
+    }
 }
 
 impl<J: Naming, M: Publisher<J>> ScriptBoard<J, M> {
@@ -90,6 +128,7 @@ impl<J: Naming, M: Publisher<J>> ScriptBoard<J, M> {
                 reader,
                 loads: Vec::new(alloc),
                 kept: Vec::new(alloc),
+                stops: Vec::new(alloc),
                 shortcuts: Shortcuts::new(alloc),
             }),
         }
@@ -110,6 +149,7 @@ impl<J: Naming, M: Publisher<J>> ScriptBoard<J, M> {
             reader: _reader,
             loads: _loads,
             kept: _kept,
+            stops: _stops,
             shortcuts: _shortcuts,
         } = self;
         board.end();

@@ -1,10 +1,11 @@
 //! The command `go`: the waiting requests are served.
 ghost use Rattle.std.specs.Prelude.{◌≡◌, ◌<◌, ◌≤◌, ◌+◌, ◌++◌, [], IfOk, OnErr, length, map, vec_capacity, vec_len};
-ghost use Rattle.script_board.specs.Serve.{IsDealt, IsGone, refusals, unless_done, waiting};
+ghost use Rattle.script_board.specs.Fault.{unless_done};
+ghost use Rattle.script_board.specs.Serve.{IsDealt, IsGone, refusals, waiting};
 
 use crate::dealing::{Dealt, deal};
 use crate::fault::Fault;
-use crate::script_board::ScriptBoard;
+use crate::script_board::{ScriptBoard, whole};
 use authority_map::Publisher;
 use heat_ledger::Share;
 use mds_board::BoardError;
@@ -39,6 +40,7 @@ impl<J: Naming + Send + Sync, M: Publisher<J> + Send> ScriptBoard<J, M> {
             reader,
             mut loads,
             kept,
+            stops,
             shortcuts,
         } = before;
         let _limit = board.limit();
@@ -46,14 +48,7 @@ impl<J: Naming + Send + Sync, M: Publisher<J> + Send> ScriptBoard<J, M> {
         let ranks = match done {
             Ok(ranks) => ranks,
             Err(failed) => {
-                let after = ScriptBoard {
-                    board,
-                    shares: failed.value,
-                    reader,
-                    loads,
-                    kept,
-                    shortcuts,
-                };
+                let after = whole(board, failed.value, reader, (loads, kept, stops), shortcuts);
                 return (after, Err(AllocError));
             }
         };
@@ -65,6 +60,7 @@ impl<J: Naming + Send + Sync, M: Publisher<J> + Send> ScriptBoard<J, M> {
             reader,
             loads,
             kept,
+            stops,
             shortcuts,
         };
         (after, Ok(refused))
@@ -77,11 +73,11 @@ impl<J: Naming, M: Publisher<J>> ScriptBoard<J, M> {
         ensures dealt { IfOk result (λ r. IsDealt self.now.world (length self.now.shares) (waiting self.now)
             (map (λ s. s.items) r.0.scripts.items) r.0.seats.items) }
         ensures none { IfOk result (λ r. r.1.items ≡ []) }
-        ensures room { IfOk result (λ r. length r.0.seats.items + 2 ≤ vec_capacity r.1) }
+        ensures room { IfOk result (λ r. length r.0.seats.items + 3 ≤ vec_capacity r.1) }
     {
         let ranks = self.shares.len();
         let dealt = deal(alloc, &self.board, ranks, &self.loads)?;
-        let refused = Vec::with_capacity(alloc, dealt.seats.len() + 2)?;
+        let refused = Vec::with_capacity(alloc, dealt.seats.len() + 3)?;
         Ok((dealt, refused))
     }
 
@@ -92,7 +88,8 @@ impl<J: Naming, M: Publisher<J>> ScriptBoard<J, M> {
         refused: Vec<Fault>,
     ) -> (Vec<Share<J>>, Vec<Fault>)
         requires none { refused.items ≡ [] }
-        requires room { length dealt.now.seats.items + 2 ≤ vec_capacity refused }
+        requires room { length dealt.now.seats.items + 3 ≤ vec_capacity refused }
+        ensures more { vec_len result.1 < vec_capacity result.1 }
         ensures shares { result.0.items ≡ ranks.shares.items }
         ensures told { result.1.items ≡ refusals (map (λ a. a.items) ranks.answers.items)
             dealt.now.seats.items ++ unless_done ranks.ended ++ unless_done ranks.deposited }
@@ -110,8 +107,8 @@ impl<J: Naming, M: Publisher<J>> ScriptBoard<J, M> {
         (shares, refused)
     }
 
-    // Adds the refusal, if there is one.
-    fn tell_rest(done: Result<(), BoardError>, refused: &mut Vec<Fault>)
+    /// Adds the refusal, if there is one.
+    pub(crate) fn tell_rest(done: Result<(), BoardError>, refused: &mut Vec<Fault>)
         requires room { vec_len refused.old < vec_capacity refused.old }
         ensures told { refused.new.items ≡ refused.old.items ++ unless_done done }
         ensures few { vec_len refused.new ≤ vec_len refused.old + 1 }

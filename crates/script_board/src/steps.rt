@@ -8,9 +8,9 @@ use crate::fault::Fault;
 use crate::script_board::ScriptBoard;
 use authority_map::Publisher;
 use export_protocol::{Event, Reply};
-use export_threads::Unsettled;
 use mds_types::{Dir, Dirs, Rank};
 use proof_names::Naming;
+use rank_threads::Unsettled;
 use std::alloc::Global;
 
 impl<J: Naming, M: Publisher<J>> ScriptBoard<J, M> {

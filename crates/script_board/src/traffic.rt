@@ -4,36 +4,25 @@ ghost use Rattle.std.specs.Prelude.{vec_capacity, vec_len};
 ghost use mathlib.Core.List.{IsPrefix};
 ghost use Rattle.script_board.specs.Board.{IsBoard};
 ghost use Rattle.script_board.specs.Move.{move_orders};
-ghost use Rattle.script_board.specs.Serve.{IsDealt, refusals, unless_done, waiting};
+ghost use Rattle.script_board.specs.Fault.{unless_done};
+ghost use Rattle.script_board.specs.Serve.{IsDealt, refusals, waiting};
 ghost use Rattle.script_board.specs.Traffic.{IsTraffic};
 
+use crate::carried::Carried;
 use crate::dealing::Dealt;
 use crate::fault::Fault;
 use crate::load::Load;
-use crate::script_board::{ScriptBoard, Shortcuts};
+use crate::script_board::{ScriptBoard, Shortcuts, whole};
 use authority_map::{MapReader, Publisher};
-use export_threads::{OpenGate, Outcome};
 use heat_ledger::Share;
 use mds_board::Board;
 use mds_types::Order;
 use proof_names::Naming;
+use rank_threads::{OpenGate, RankStop, Tasks, Traffic, traffic_with_totals};
 use std::alloc::{AllocError, Global};
 use std::marker::{Send, Sync};
 use std::sync::Wait;
 use std::thread::Threads;
-use traffic_threads::{Tasks, Traffic, traffic_with_totals};
-
-/// What requests met, and what became of orders.
-#[derive(Drop)]
-pub struct Carried {
-    /// The refusals: those of requests in the order of their loads, then the first of an end, then the first of a
-    /// deposit.
-    pub refused: Vec<Fault>,
-    /// The orders of pins, and then those of the last plan.
-    pub orders: Vec<Order>,
-    /// What became of each order.
-    pub outcomes: Vec<Outcome>,
-}
 
 // What a phase is to do, and room for the refusals that it may meet.
 #[derive(Drop)]
@@ -57,7 +46,8 @@ impl<J: Naming + Send + Sync, M: Publisher<J> + Send> ScriptBoard<J, M> {
     /// Serves the waiting requests as `go` does, while it carries out orders as `carry_out_moves` does. The map is
     /// opened anew, with a reader for each rank, so that before it there is one reader to publish to. Each request is
     /// asked by the thread of the rank that the map names for it at first, at the rank that the thread's own reader of
-    /// the map then finds. Where memory is refused before the first request and the first export, nothing has changed.
+    /// the map then finds. Ranks stop that are to. Where memory is refused before the first request and the first
+    /// export, nothing has changed.
     pub fn traffic<R: Threads + Wait + Sync>(
         self,
         rt: &R,
@@ -83,12 +73,14 @@ impl<J: Naming + Send + Sync, M: Publisher<J> + Send> ScriptBoard<J, M> {
             reader: _closed,
             loads,
             kept,
+            stops,
             mut shortcuts,
         } = before;
         let _limit = board.limit();
         let tasks = Tasks {
             scripts: &planned.dealt.scripts,
             orders: &planned.orders,
+            stops: &stops,
         };
         let left = &mut shortcuts.unsettled;
         let (board, done) = traffic_with_totals(
@@ -96,13 +88,12 @@ impl<J: Naming + Send + Sync, M: Publisher<J> + Send> ScriptBoard<J, M> {
         );
         match done {
             Ok(traffic) => {
-                compare(&board, &traffic.readers);
-                let (hands, carried) = ScriptBoard::<J, M>::carried(planned, traffic);
-                let after = put_together(board, hands, Vec::new(alloc), Vec::new(alloc), shortcuts);
+                let (hands, carried) = ScriptBoard::<J, M>::carried(&board, planned, traffic);
+                let after = put_together(board, hands, nothing(alloc), shortcuts);
                 (after, Ok(carried))
             }
             Err(failed) => {
-                let after = put_together(board, failed.value, loads, kept, shortcuts);
+                let after = put_together(board, failed.value, (loads, kept, stops), shortcuts);
                 (after, Err(AllocError))
             }
         }
@@ -115,7 +106,7 @@ impl<J: Naming, M: Publisher<J>> ScriptBoard<J, M> {
         ensures dealt { IfOk result (λ p. IsDealt self.now.world (length self.now.shares) (waiting self.now)
             (map (λ s. s.items) p.dealt.scripts.items) p.dealt.seats.items) }
         ensures none { IfOk result (λ p. p.refused.items ≡ []) }
-        ensures room { IfOk result (λ p. length p.dealt.seats.items + 2 ≤ vec_capacity p.refused) }
+        ensures room { IfOk result (λ p. length p.dealt.seats.items + 3 ≤ vec_capacity p.refused) }
         ensures orders { IfOk result (λ p. p.orders.items ≡ move_orders self.now) }
     {
         let (dealt, refused) = self.prepare(alloc)?;
@@ -129,15 +120,19 @@ impl<J: Naming, M: Publisher<J>> ScriptBoard<J, M> {
 
     // The shares and the readers that a phase gave back, and what it has done.
     fn carried(
+        board: &Board<J, M>,
         planned: Planned,
         traffic: Traffic<J>,
     ) -> ((Vec<Share<J>>, Vec<MapReader<J>>), Carried)
         requires none { planned.refused.items ≡ [] }
-        requires room { length planned.dealt.seats.items + 2 ≤ vec_capacity planned.refused }
+        requires room { length planned.dealt.seats.items + 3 ≤ vec_capacity planned.refused }
         ensures shares { result.0.0.items ≡ traffic.ranks.shares.items }
         ensures readers { result.0.1.items ≡ traffic.readers.items }
-        ensures told { result.1.refused.items ≡ refusals (map (λ a. a.items) traffic.ranks.answers.items)
-            planned.dealt.seats.items ++ unless_done traffic.ranks.ended ++ unless_done traffic.ranks.deposited }
+        ensures one_line { All (λ r. IsPrefix r board.now.published ⊎ IsPrefix board.now.published r)
+            traffic.readers.items }
+        ensures told { result.1.refused.items ≡ (refusals (map (λ a. a.items) traffic.ranks.answers.items)
+            planned.dealt.seats.items ++ unless_done traffic.ranks.ended ++ unless_done traffic.ranks.deposited)
+            ++ unless_done traffic.stopped }
         ensures orders { result.1.orders.items ≡ planned.orders.items }
         ensures outcomes { result.1.outcomes.items ≡ traffic.outcomes.items }
     {
@@ -150,8 +145,11 @@ impl<J: Naming, M: Publisher<J>> ScriptBoard<J, M> {
             ranks,
             readers,
             outcomes,
+            stopped,
         } = traffic;
-        let (shares, refused) = ScriptBoard::<J, M>::told(&dealt, ranks, refused);
+        compare(board, &readers);
+        let (shares, mut refused) = ScriptBoard::<J, M>::told(&dealt, ranks, refused);
+        ScriptBoard::<J, M>::tell_rest(stopped, &mut refused);
         let carried = Carried {
             refused,
             orders,
@@ -161,29 +159,44 @@ impl<J: Naming, M: Publisher<J>> ScriptBoard<J, M> {
     }
 }
 
-// The board with these requests that wait and these orders that are kept. One of the readers is the report's from now
-// on.
+// No request, no order and no stop waits.
+fn nothing(alloc: Global) -> (Vec<Load>, Vec<Order>, Vec<RankStop>)
+    ensures loads { result.0.items ≡ [] }
+    ensures kept { result.1.items ≡ [] }
+    ensures stops { result.2.items ≡ [] }
+{
+    let loads = Vec::new(alloc);
+    let kept = Vec::new(alloc);
+    let stops = Vec::new(alloc);
+    (loads, kept, stops)
+}
+
+// The board with what waits. One of the readers is the report's from now on.
 fn put_together<J: Naming, M: Publisher<J>>(
     board: Board<J, M>,
     hands: (Vec<Share<J>>, Vec<MapReader<J>>),
-    loads: Vec<Load>,
-    kept: Vec<Order>,
+    waiting: (Vec<Load>, Vec<Order>, Vec<RankStop>),
     shortcuts: Shortcuts,
 ) -> ScriptBoard<J, M>
-    requires fits { IsBoard (record { world = board; shares = hands.0.items; loads = loads.items; kept = kept.items }) }
+    requires fits { IsBoard (record {
+      world = board;
+      shares = hands.0.items;
+      loads = waiting.0.items;
+      kept = waiting.1.items;
+      stops = waiting.2.items;
+    }) }
     requires reader { 0 < vec_len hands.1 }
-    ensures { result ≡ record { world = board; shares = hands.0.items; loads = loads.items; kept = kept.items } }
+    ensures { result ≡ record {
+      world = board;
+      shares = hands.0.items;
+      loads = waiting.0.items;
+      kept = waiting.1.items;
+      stops = waiting.2.items;
+    } }
 {
     let (shares, mut readers) = hands;
     let Some(reader) = readers.pop() else {
         unreachable!()
     };
-    ScriptBoard {
-        board,
-        shares,
-        reader,
-        loads,
-        kept,
-        shortcuts,
-    }
+    whole(board, shares, reader, waiting, shortcuts)
 }

@@ -66,6 +66,7 @@ pub data Command : Type 0 where
   Traffic : Command
   Stop : ℕ → Command
   Restart : ℕ → Command
+  Fail : ℕ → ℕ → Command
   Stat : Command
   Start : ℕ → ℕ → List (List ℕ) → Command
   Begin : ℕ → List ℕ → Command
@@ -126,6 +127,11 @@ stop fields = None
 abbrev pub restart : List (List ℕ) → Option Command
 restart (n ∷ []) = option_map Restart (rank_of n)
 restart fields = None
+
+-- a rank that stops before this round of the next phase of exports
+abbrev pub fail : List (List ℕ) → Option Command
+fail (n ∷ round ∷ []) = option_and_then (λ rank. option_map (Fail rank) (number 1 8 round)) (rank_of n)
+fail fields = None
 
 -- the exporter and the importer that fields name first, and the fields after them
 abbrev pub named_way : List (List ℕ) → Option (ℕ × ℕ × List (List ℕ))
@@ -201,6 +207,7 @@ command (word ∷ rest) =
     else if bytes_eq word (codes "traffic") then alone Traffic rest
     else if bytes_eq word (codes "stop") then stop rest
     else if bytes_eq word (codes "restart") then restart rest
+    else if bytes_eq word (codes "fail") then fail rest
     else if bytes_eq word (codes "stat") then alone Stat rest
     else if bytes_eq word (codes "start") then start rest
     else further_step word rest

@@ -22,6 +22,7 @@ view made.Move = line.Move
 view made.Traffic = line.Traffic
 view (made.Stop rank) = line.Stop rank
 view (made.Restart rank) = line.Restart rank
+view (made.Fail rank round) = line.Fail rank round
 view made.Stat = line.Stat
 view (made.Start export) = line.Start export.from export.to (map (λ p. p.now) export.paths.items)
 view (made.Begin rank path) = line.Begin rank path.now

@@ -2,7 +2,7 @@
 ghost use Rattle.std.specs.Prelude.{◌≡◌, ◌∷◌, bytes_eq, codes, map, IfOk, false, true};
 ghost use Rattle.std.specs.List.{list_all};
 ghost use Rattle.std.specs.Option.{option_map};
-ghost use Rattle.script_commands.specs.Commands.{alone, command, fields, is_plain, kind_named, kind_of};
+ghost use Rattle.script_commands.specs.Commands.{alone, command, fail, fields, is_plain, kind_named, kind_of};
 ghost use Rattle.script_commands.specs.Commands.{load, make_dir, mask, pin, weight};
 ghost use Rattle.script_commands.specs.Commands.{begin_request, further_step, its_number, named_way, start};
 ghost use Rattle.script_commands.specs.Commands.{export, journal, look};
@@ -49,6 +49,8 @@ pub enum Command<'a> {
     Stop(Rank),
     /// A rank runs again.
     Restart(Rank),
+    /// A rank stops before this round, 1 to 8, of the next phase of exports.
+    Fail(Rank, u8),
     /// The report on all directories.
     Stat,
     /// An export starts.
@@ -94,6 +96,15 @@ fn restart(rest: &[u8]) -> Option<Command<'_>>
 {
     let rank = rank(one_field(rest)?)?;
     Some(Command::Restart(rank))
+}
+
+fn fail(rest: &[u8]) -> Option<Command<'_>>
+    ensures { option_map view result ≡ fail (fields rest.now) }
+{
+    let (name, round) = two_fields(rest)?;
+    let rank = rank(name)?;
+    let round = number(round, 1, 8)?;
+    Some(Command::Fail(rank, round as u8))
 }
 
 fn mask(rest: &[u8]) -> Option<Command<'_>>
@@ -410,6 +421,8 @@ fn find_rarer_command<'a>(word: &[u8], rest: &'a [u8]) -> Option<Command<'a>>
         stop(rest)
     } else if word == b"restart".as_slice() {
         restart(rest)
+    } else if word == b"fail".as_slice() {
+        fail(rest)
     } else if word == b"stat".as_slice() {
         alone(Command::Stat, rest)
     } else {

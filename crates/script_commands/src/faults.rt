@@ -110,6 +110,11 @@ const RANK: Field = Field {
     rule: Rule::Within(0, 63),
 };
 
+const ROUND: Field = Field {
+    name: "ROUND",
+    rule: Rule::Within(1, 8),
+};
+
 const FROM: Field = Field {
     name: "FROM",
     rule: Rule::Within(0, 63),
@@ -148,7 +153,7 @@ pub struct Form {
     fields: &'static [Field],
 }
 
-const FORMS: [Form; 26] = [
+const FORMS: [Form; 27] = [
     Form {
         word: "ranks",
         fields: &[ACTIVE],
@@ -208,6 +213,10 @@ const FORMS: [Form; 26] = [
     Form {
         word: "restart",
         fields: &[RANK],
+    },
+    Form {
+        word: "fail",
+        fields: &[RANK, ROUND],
     },
     Form {
         word: "stat",

@@ -1,12 +1,14 @@
 -- Each line leaves a longer history, or the same.
 use Rattle.std.proofs.Common.{◌≡◌, ◌==◌, ℕ, Bool, true, false, cond, List, [], ◌∷◌, ◌++◌, length, refl, sym, ap, subst, ◌∙◌, append_assoc, append-nil, inl, inr, Option, Some, None, Result, Ok, Err}
 use Rattle.std.specs.Prelude.{option_map}
-use Rattle.export_rounds.specs.Going.{WentOnBy, added}
-use Rattle.export_rounds.proofs.Going.{parts_of}
+use Rattle.phased_board.specs.Going.{WentOnWithStops, added}
+use Rattle.phased_board.specs.Stops.{ranks_of}
+use Rattle.phased_board.proofs.Going.{all_parts}
 use Rattle.mds_board.specs.declared.board_error.BoardError.{BoardError}
 use Rattle.mds_board.specs.declared.change.Change.{Change}
 use Rattle.mds_board.specs.declared.change.Change.TheVariants as change
 use Rattle.mds_board.specs.State.{refusal}
+use Rattle.export_protocol.specs.Step.{no_rank}
 use Rattle.export_protocol.specs.declared.event.Event.{Event}
 use Rattle.export_protocol.specs.declared.event.Event.TheVariants as event
 use Rattle.export_protocol.specs.declared.event.Reply.{Reply}
@@ -21,6 +23,7 @@ use Rattle.script_board.specs.declared.fault.Fault.{Fault}
 use Rattle.script_board.specs.Board.{BoardData, publish}
 use Rattle.script_board.specs.Commands.{◌>>=◌, changed, find, last_slash, make_below, masked, parent_path, replanned}
 use Rattle.script_board.specs.Fault.{unless}
+use Rattle.script_board.specs.Looks.{refused_step}
 use Rattle.script_board.specs.Plan.{planned}
 use Rattle.script_board.specs.Serve.{IsGone}
 use Rattle.script_board.specs.Steps.{find_all, take_step, with_request}
@@ -100,11 +103,11 @@ from_begin : (b : BoardData) (rank : ℕ) (path : List ℕ) (y : Stepped) → (f
 from_begin b rank path y is =
     step_bound b y (find b path) _ (λ d _ begun. step_bound b y (take_step b (event.Begin rank d)) _ (λ done told counted. counted_longer b done y rank d (from_step b (event.Begin rank d) done told) counted) begun) is
 
-went_longer : (r x : Bool) (b new : BoardData) → WentOnBy r x b.world new.world → Longer b new
-went_longer r x b new went = (added b.world new.world, parts_of r x b.world new.world went)
+went_longer : (r x : Bool) (stops : List ℕ) (b new : BoardData) → WentOnWithStops r x stops b.world new.world → Longer b new
+went_longer r x stops b new went = (added b.world new.world, all_parts r x stops b.world new.world went)
 
 gone_longer : (b : BoardData) (refused : List Fault) (new : BoardData) → IsGone b refused new → Longer b new
-gone_longer b refused new h = went_longer true false b new h.0.went
+gone_longer b refused new h = went_longer true false [] b new h.0.went
 
 planned_longer : (b : BoardData) (plan : Plan) (new : BoardData) → new ≡ planned b plan → Longer b new
 planned_longer b plan new is =
@@ -127,9 +130,11 @@ does_longer b line.Go p ample new h = gone_longer b p.refused new h.0
 does_longer b line.Tick p ample new h = from_changed b new change.Tick h.0
 does_longer b (line.Cost paths) p ample new h = same_longer b new h.4
 does_longer b line.Plan p ample new h = planned_longer b h.0 new h.1.adopted
-does_longer b line.Move p ample new h = went_longer false true b new h.2.went
-does_longer b line.Traffic p ample new h = went_longer true true b new h.2.served.went
+does_longer b line.Move p ample new h = went_longer false true (ranks_of b.stops) b new h.2.went
+does_longer b line.Traffic p ample new h = went_longer true true (ranks_of b.stops) b new h.2.served.went
 does_longer b (line.Stop rank) p ample new h = from_changed b new _ h.0
+does_longer b (line.Fail rank round) p ample new h =
+    from_unless (refused_step (no_rank b.world.state.cluster rank)) b _ new (itself b.world.history) h.0
 does_longer b (line.Restart rank) p ample new h = from_changed b new _ h.0
 does_longer b line.Stat p ample new h = same_longer b new h.2
 does_longer b (line.Start from to paths) p ample new h = from_start b from to paths (h.0, new) h.1

@@ -1,7 +1,7 @@
 -- Orders with their outcomes.
 use Rattle.std.proofs.Common.{◌≡◌, ℕ, zero, suc, ◌<◌, List, [], ◌∷◌, length, get_or, refl, ap, arith}
 use Rattle.mds_types.specs.declared.order.Order.{Order}
-use Rattle.export_rounds.specs.declared.outcome.Outcome.{Outcome}
+use Rattle.phased_board.specs.declared.outcome.Outcome.{Outcome}
 use Rattle.script_session.specs.Move.{pairs}
 
 pub length-pairs : (orders : List Order) (outcomes : List Outcome) → length outcomes ≡ length orders → length (pairs orders outcomes) ≡ length orders

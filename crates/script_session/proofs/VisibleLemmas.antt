@@ -22,7 +22,8 @@ use Rattle.script_board.specs.Board.{BoardData, publish}
 use Rattle.script_board.specs.Commands.{◌>>=◌, changed, find, last_slash, make_below, masked, parent_path, replanned}
 use Rattle.script_board.specs.Cost.{cost, top, tops}
 use Rattle.script_board.specs.Fault.{unless}
-use Rattle.script_board.specs.Looks.{export_facts, journal_entries}
+use Rattle.script_board.specs.Looks.{export_facts, journal_entries, refused_step}
+use Rattle.export_protocol.specs.Step.{no_rank}
 use Rattle.script_board.specs.Steps.{begin_at, find_all, start, take_step, with_request}
 use Rattle.script_session.specs.Printed.{Printed, joined, only_lines}
 use Rattle.script_session.specs.Does.{Changes, Meaning, Moves, Plans, Prints, Reports, Serves, Steps, Traffics, costed, is_function, meaning}
@@ -161,6 +162,7 @@ module _ (b : BoardData) (ops : List Operation) where
   like_on_board line.Move sure = cc
   like_on_board line.Traffic sure = cc
   like_on_board (line.Stop rank) sure = like_silent _ _ (like_changed _)
+  like_on_board (line.Fail rank round) sure = like_silent _ _ (like_unless (refused_step (no_rank b.world.state.cluster rank)) _ _ (ops, refl))
   like_on_board (line.Restart rank) sure = like_silent _ _ (like_changed _)
   like_on_board line.Stat sure = cc
   like_on_board (line.Start from to paths) sure = like_replied _ _ (like_start from to paths)

@@ -4,13 +4,13 @@ use Rattle.tree_parts.specs.declared.division.Part.{Part}
 use Rattle.export_protocol.specs.declared.event.Reply.{Reply}
 use Rattle.mds_types.specs.declared.order.Order.{Order}
 use Rattle.mds_types.specs.declared.plan.Plan.{Plan}
-use Rattle.export_rounds.specs.declared.outcome.Outcome.{Outcome}
+use Rattle.phased_board.specs.declared.outcome.Outcome.{Outcome}
 use Rattle.script_commands.specs.Commands as line
 use Rattle.script_commands.specs.Commands.{Command}
 use Rattle.script_board.specs.declared.fault.Fault.{Fault}
 use Rattle.script_board.specs.declared.fault.Fault.TheVariants.{RanksAgain, Memory}
 use Rattle.script_board.specs.Board.{BoardData}
-use Rattle.script_board.specs.Commands.{load, make_dir, remove_dir, restart, set_mask, set_pin, set_weights}
+use Rattle.script_board.specs.Commands.{fail, load, make_dir, remove_dir, restart, set_mask, set_pin, set_weights}
 use Rattle.script_board.specs.Commands.{stop, tick}
 use Rattle.script_board.specs.Cost.{cost}
 use Rattle.script_board.specs.Looks.{export_facts, journal_entries}
@@ -67,6 +67,7 @@ meaning line.Move = Moves
 meaning line.Traffic = Traffics
 meaning (line.Stop rank) = Changes (λ b. stop b rank)
 meaning (line.Restart rank) = Changes (λ b. restart b rank)
+meaning (line.Fail rank round) = Changes (λ b. fail b rank round)
 meaning line.Stat = Reports stat_lines
 meaning (line.Start from to paths) = Steps (λ b. start b from to paths)
 meaning (line.Begin rank path) = Steps (λ b. begin_at b rank path)
@@ -109,7 +110,7 @@ abbrev pub IsQuiet : Result BoardData Fault → Printed → Bool → BoardData �
 IsQuiet changed p ample new = (changed ≡ Ok new) × (p ≡ only_lines []) × (ample ≡ true)
 
 -- The board does what is meant: this is printed, and this is the board after it. Ample says whether memory sufficed
--- for all that it does; only `go` and `traffic` can go on without, and then report it.
+-- for all that it does; only `go`, `move` and `traffic` can go on without, and then report it.
 abbrev pub Does : BoardData → Meaning → Printed → Bool → BoardData → Type 0
 Does b (Changes change) p ample new = IsQuiet (change b) p ample new
 Does b (Prints print) p ample new =
@@ -121,8 +122,8 @@ Does b Serves p ample new = IsGone b p.refused new × (p.lines ≡ []) × (ample
 Does b Plans p ample new =
     (plan : Plan) × IsPlanned b plan new × (p ≡ only_lines (plan_lines new (parts_in_force new))) × (ample ≡ true)
 Does b Moves p ample new =
-    (orders : List Order) × (outcomes : List Outcome) × IsMoved b orders outcomes new × (p
-    ≡ only_lines (move_lines new orders outcomes)) × (ample ≡ true)
+    (orders : List Order) × (outcomes : List Outcome) × IsMoved b p.refused orders outcomes new × (p.lines
+    ≡ move_lines new orders outcomes) × (ample ≡ is_ample p.refused)
 Does b Traffics p ample new =
     (orders : List Order) × (outcomes : List Outcome) × IsTraffic b p.refused orders outcomes new × (p.lines
     ≡ move_lines new orders outcomes) × (ample ≡ is_ample p.refused)

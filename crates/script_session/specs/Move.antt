@@ -7,8 +7,8 @@ use Rattle.mds_types.specs.declared.order.Order.{Order}
 use Rattle.mds_types.specs.Refusal.{words}
 use Rattle.mds_types.specs.declared.refusal.Refusal.TheVariants as refusal
 use Rattle.mds_board.specs.Refused.{refusal_of}
-use Rattle.export_rounds.specs.declared.outcome.Outcome.{Outcome}
-use Rattle.export_rounds.specs.declared.outcome.Outcome.TheVariants.{Done, Aborted, Open, Refused, NoThread}
+use Rattle.phased_board.specs.declared.outcome.Outcome.{Outcome}
+use Rattle.phased_board.specs.declared.outcome.Outcome.TheVariants.{Done, Aborted, Open, Refused, NoThread}
 use Rattle.script_board.specs.Board.{BoardData}
 
 -- an order that no thread took up, as its exporter had none, is refused, too

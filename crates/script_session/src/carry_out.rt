@@ -5,6 +5,8 @@ ghost use Rattle.script_commands.specs.View.{view};
 ghost use Rattle.script_session.specs.Does.{Does, IsCaused, cause, is_by_threads, meaning};
 ghost use Rattle.script_session.specs.Done.{IsShowable, shown};
 ghost use Rattle.script_session.specs.Printed.{only_lines};
+ghost use Rattle.script_session.specs.declared.done.Done.TheVariants as done;
+ghost use Rattle.script_session.specs.declared.reply.CommandReply.TheVariants as reply;
 
 use crate::done::Done;
 use crate::reply::CommandReply;
@@ -26,6 +28,18 @@ pub fn is_by_threads(command: &Command<'_>) -> bool
         Command::Go | Command::Move | Command::Traffic => true,
         _ => false,
     }
+}
+
+// What is printed of a `move` or a `traffic`.
+fn done_by(carried: Carried) -> Done
+    ensures { result ≡ done.Carried carried.refused (reply.Move carried.orders carried.outcomes) }
+{
+    let Carried {
+        refused,
+        orders,
+        outcomes,
+    } = carried;
+    Done::Carried(refused, CommandReply::Move(orders, outcomes))
 }
 
 /// Carries out a command by threads of the ranks, and answers the board and what is printed of it.
@@ -57,26 +71,14 @@ pub fn carry_out_by_threads<
         Command::Move => {
             let (board, moved) = board.carry_out_moves(rt, alloc);
             match moved {
-                Ok((orders, outcomes)) => (
-                    board,
-                    Ok(Done::Lines(CommandReply::Move(orders, outcomes))),
-                ),
+                Ok(carried) => (board, Ok(done_by(carried))),
                 Err(memory) => (board, Err(Fault::from(memory))),
             }
         }
         Command::Traffic => {
             let (board, carried) = board.traffic(rt, alloc);
             match carried {
-                Ok(
-                    Carried {
-                        refused,
-                        orders,
-                        outcomes,
-                    },
-                ) => {
-                    let reply = CommandReply::Move(orders, outcomes);
-                    (board, Ok(Done::Carried(refused, reply)))
-                }
+                Ok(carried) => (board, Ok(done_by(carried))),
                 Err(memory) => (board, Err(Fault::from(memory))),
             }
         }
@@ -108,6 +110,7 @@ pub fn change<J: Naming, M: Publisher<J>, R: Threads + Sync>(
         Command::Weight(read, write) => board.set_weights(read, write)?,
         Command::Tick => board.tick()?,
         Command::Stop(rank) => board.stop(alloc, rank)?,
+        Command::Fail(rank, round) => board.fail(rank, round)?,
         Command::Restart(rank) => board.restart(alloc, rank)?,
         Command::Plan => {
             board.plan(rt, alloc)?;

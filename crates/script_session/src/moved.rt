@@ -5,8 +5,8 @@ ghost use Rattle.script_session.specs.Move.{top_of, top_path, way_text, word};
 
 use authority_map::Publisher;
 use dirtree::Tree;
-use export_rounds::Outcome;
 use mds_types::{Dir, Order, Rank, Refusal};
+use phased_board::Outcome;
 use proof_names::Naming;
 use script_board::ScriptBoard;
 use std::alloc::{AllocError, Global};

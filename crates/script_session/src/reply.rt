@@ -4,8 +4,8 @@ ghost use Rattle.script_board.specs.Board.{BoardData};
 ghost use Rattle.script_session.specs.Reply.{IsPrintable, reply_lines};
 
 use export_protocol::{JournalEntry, Reply};
-use export_rounds::Outcome;
 use mds_types::{Dir, Order, Rank};
+use phased_board::Outcome;
 use script_board::ExportFact;
 use tree_parts::{Part, PlanPart};
 

@@ -7,20 +7,18 @@ use crate::phases::work::{
 use crate::times::nanos;
 use authority_map::{MapReader, Publisher};
 use export_protocol::{Event, Reply};
-use export_rounds::Unsettled;
-use export_threads::export_phase;
 use heat_ledger::Share;
 use mds_board::Board;
 use mds_types::limits::DIR_LIMIT;
 use mds_types::{Dir, Kind, Order};
+use phased_board::Unsettled;
 use proof_names::Naming;
-use rank_threads::{OpenGate, serve_phase};
+use rank_threads::{OpenGate, Tasks, export_phase, serve_phase, traffic_phase};
 use std::alloc::Global;
 use std::marker::{Send, Sync};
 use std::sync::Wait;
 use std::thread::Threads;
 use std::time::{Clock, Duration};
-use traffic_threads::{Tasks, traffic_phase};
 
 /// A phase: of all ranks at once, in threads, or of requests on one thread. Both kinds of work go on at once, or one
 /// after the other.
@@ -283,6 +281,7 @@ fn time_made<J: Naming + Send + Sync, M: Publisher<J> + Send, R: Threads + Wait 
                 let tasks = Tasks {
                     scripts: &scripts,
                     orders: &orders,
+                    stops: &[],
                 };
                 let wanted = asked(ranks, hits);
                 return time_both(rt, alloc, board, seats, tasks, wanted, at_once);

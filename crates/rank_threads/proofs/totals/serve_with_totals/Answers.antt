@@ -1,4 +1,4 @@
-use Rattle.std.proofs.Common.{◌∙◌, ap, false, sym, true}
+use Rattle.std.proofs.Common.{[], ◌∙◌, ap, false, sym, true}
 use Rattle.heat_ledger.specs.Ledger.{weight_of}
 use Rattle.mds_board.specs.History.{World}
 use Rattle.rank_threads.proofs.Summing.{totals_after, whole_after}
@@ -9,7 +9,7 @@ audit-requires-in-Ok g c =
     let same = c.audit.ensures.same in
     let returned = (rw c.in-Ok.is at c.serve_phase-board.ensures.served).returned in
     let whole = ap weight_of same.1 ∙ (c.requires.whole ∙ sym (ap (λ (w : World). w.shares) same.0)) in
-    whole_after true false g.J.Naming.limit c.audit.new.self c.serve_phase-board.result.0 c.audit.new.shares.items _ _ c.in-Ok.ranks.shares.items
+    whole_after true false [] g.J.Naming.limit c.audit.new.self c.serve_phase-board.result.0 c.audit.new.shares.items _ _ c.in-Ok.ranks.shares.items
     c.serve_phase-board.ensures.board returned whole
 
 pub returns-in-Ok-clause-served : goal.returns-in-Ok-clause-served
@@ -25,7 +25,7 @@ returns-in-Ok-clause-totals g c =
     let again = c.audit-in-Ok.ensures.same in
     let returned = (rw c.in-Ok.is at c.serve_phase-board.ensures.served).returned in
     let whole = ap weight_of same.1 ∙ (c.requires.whole ∙ sym (ap (λ (w : World). w.shares) same.0)) in
-    let kept = whole_after true false g.J.Naming.limit c.audit.new.self c.serve_phase-board.result.0 c.audit.new.shares.items _ _ c.in-Ok.ranks.shares.items
+    let kept = whole_after true false [] g.J.Naming.limit c.audit.new.self c.serve_phase-board.result.0 c.audit.new.shares.items _ _ c.in-Ok.ranks.shares.items
     c.serve_phase-board.ensures.board returned whole in
     rw (← same.0, ← same.1)
     (totals_after g.J.Naming.limit c.audit.new.self c.audit-in-Ok.new.self c.audit.new.shares.items _ _ c.audit-in-Ok.new.shares.items (rw (← again.1) at returned)

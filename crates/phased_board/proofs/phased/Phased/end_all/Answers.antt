@@ -1,6 +1,7 @@
 use Rattle.std.proofs.Common.{◌≡◌, ◌++◌, ◌∙◌, [], ℕ, List, Some, None, ap, sym, subst, append-nil, append_assoc, arith}
 use Rattle.export_protocol.specs.Authority.{request_of}
 use Rattle.mds_board.specs.declared.entry.Entry.{Entry}
+use Rattle.phased_board.specs.Stops.{ranks_of}
 use Rattle.phased_board.proofs.Ended.{either_met, none_runs, over_more}
 use Rattle.phased_board.proofs.Later.{end_later}
 use Rattle.phased_board.proofs.phased.Phased.end_all.Goals as goal
@@ -47,6 +48,6 @@ loop-number-preserved g c =
 pub returns : goal.returns
 returns g c = (
   c.loop-number.invariant.refused,
-  λ ok. none_runs g.K.Phase.requests g.K.Phase.exports g.K.Phase.before c.args.self.now c.loop-number.self c.promises.ensures.went
+  λ ok. none_runs g.K.Phase.requests g.K.Phase.exports (ranks_of g.K.Phase.stops) g.K.Phase.before c.args.self.now c.loop-number.self c.promises.ensures.went
       (λ k e low high is. c.loop-number.invariant.over ok k e (omega arith) (omega arith) is) c.loop-number.invariant.others,
 )

@@ -1,6 +1,6 @@
 use Rattle.std.proofs.Common.{◌∙◌, sym, subst}
-use Rattle.export_rounds.specs.Asked.{AreAsked}
-use Rattle.export_rounds.proofs.Asking.{begun_later}
+use Rattle.phased_board.specs.Asked.{AreAsked}
+use Rattle.phased_board.proofs.Asking.{begun_later}
 use Rattle.phased_board.proofs.phased.PhasedExportSide.started.Goals as goal
 
 pub returns-in-Some-Started : goal.returns-in-Some-Started

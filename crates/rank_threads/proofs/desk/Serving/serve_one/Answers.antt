@@ -1,4 +1,4 @@
-use Rattle.export_rounds.proofs.Asking.{follows}
+use Rattle.phased_board.proofs.Asking.{follows}
 use Rattle.rank_threads.proofs.Later.{asked_longer}
 use Rattle.rank_threads.proofs.desk.Serving.serve_one.Goals as goal
 use Rattle.rank_threads.proofs.desk.Serving.serve_one.Goals.{in-Err, in-Ok}

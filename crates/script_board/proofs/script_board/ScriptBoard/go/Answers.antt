@@ -1,4 +1,4 @@
-use Rattle.std.proofs.Common.{◌≡◌, ℕ, false, List, Vec, Global, length, map, refl, sym, subst, arith, ◌∙◌}
+use Rattle.std.proofs.Common.{◌≡◌, ℕ, false, List, [], Vec, Global, length, map, refl, sym, subst, arith, ◌∙◌}
 use Rattle.std.proofs.lemmas.List.{length-map}
 use Rattle.heat_ledger.specs.Ledger.{ShareData}
 use Rattle.rank_threads.specs.declared.work.Work.{Work}
@@ -12,15 +12,15 @@ use Rattle.script_board.proofs.DealingLemmas.{returned_length}
 use Rattle.script_board.proofs.ServeLemmas.{served_by}
 use Rattle.script_board.proofs.script_board.ScriptBoard.go.Goals as goal
 
-pub invariant_of-after : goal.invariant_of-after
-invariant_of-after g c =
+pub whole-after-requires : goal.whole-after-requires
+whole-after-requires g c =
     let inv = c.before-2.invariant in
     let same : c.in-Err-done.failed.value.items ≡ c.before-2.inside.shares.items = rw c.in-Err-done.is at c.serve_with_totals-board.ensures.memory in
     let board : c.serve_with_totals-board.result.0 ≡ c.before-2.inside.board = rw c.in-Err-done.is at c.serve_with_totals-board.ensures.unchanged in
-    rw (same, board) record { some_shares = inv.some_shares; few_shares = inv.few_shares; whole = inv.whole }
+    rw (same, board) record { fits = record { some_shares = inv.some_shares; few_shares = inv.few_shares; whole = inv.whole } }
 
-pub invariant_of-after-2 : goal.invariant_of-after-2
-invariant_of-after-2 g c =
+pub invariant_of-after : goal.invariant_of-after
+invariant_of-after g c =
     let inv = c.before-2.invariant in
     let some = inv.some_shares in
     let few = inv.few_shares in
@@ -33,9 +33,9 @@ invariant_of-after-2 g c =
 
 pub returns-clause-done : goal.returns-clause-done
 returns-clause-done g c =
-    let old : BoardData = record { world = c.before-2.inside.board; shares = c.before-2.inside.shares.items; loads = c.before-2.inside.loads.items; kept = c.before-2.inside.kept.items } in
+    let old : BoardData = record { world = c.before-2.inside.board; shares = c.before-2.inside.shares.items; loads = c.before-2.inside.loads.items; kept = c.before-2.inside.kept.items; stops = c.before-2.inside.stops.items } in
     let as_before : old ≡ c.args.self = c.before-2.view_is in
-    let new : List ShareData → BoardData = λ shares. record { world = c.serve_with_totals-board.result.0; shares = shares; loads = c.clear.new.self.items; kept = c.before-2.inside.kept.items } in
+    let new : List ShareData → BoardData = λ shares. record { world = c.serve_with_totals-board.result.0; shares = shares; loads = c.clear.new.self.items; kept = c.before-2.inside.kept.items; stops = c.before-2.inside.stops.items } in
     let limit : g.J.Naming.limit ≡ old.world.state.directories.limit = sym c.limit-limit.ensures.named ∙ c.limit-limit.ensures.limit in
     let seats : List Seat = c.in-Ok.prepared.0.seats.items in
     let answers : List (List WorkAnswer) = map (λ (a : Vec WorkAnswer Global). a.items) c.in-Ok-done.ranks.answers.items in
@@ -49,9 +49,10 @@ returns-clause-done g c =
     (rw c.in-Ok-done.is at c.serve_with_totals-board.ensures.served) in
     subst (λ (shares : List ShareData). IsGone c.args.self c.told-shares.result.1.items (new shares)) (sym c.told-shares.ensures.shares)
     (subst (λ (b : BoardData). IsGone b c.told-shares.result.1.items (new c.in-Ok-done.ranks.shares.items)) as_before (
-      served_by false g.J.Naming.limit (own_ranks 0 (length old.shares)) (own_ranks 0 (length old.shares)) old (new c.in-Ok-done.ranks.shares.items) c.told-shares.result.1.items scripts seats answers
+      served_by false [] g.J.Naming.limit (own_ranks 0 (length old.shares)) (own_ranks 0 (length old.shares)) old (new c.in-Ok-done.ranks.shares.items) c.told-shares.result.1.items scripts seats answers
           c.in-Ok-done.ranks.ended c.in-Ok-done.ranks.deposited limit dealt served (rw c.in-Ok-done.is at c.serve_with_totals-board.ensures.totals) (rw c.in-Ok-done.is at c.serve_with_totals-board.ensures.ended)
           c.serve_with_totals-board.ensures.board c.told-shares.ensures.told,
       c.clear.ensures.items,
+      refl,
       refl,
     ))

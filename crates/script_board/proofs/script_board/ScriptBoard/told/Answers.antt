@@ -1,6 +1,7 @@
 use Rattle.std.proofs.Common.{Vec, Global, ◌++◌, map, ◌∙◌}
 use Rattle.rank_threads.specs.declared.work.WorkAnswer.{WorkAnswer}
-use Rattle.script_board.specs.Serve.{refusals, unless_done}
+use Rattle.script_board.specs.Fault.{unless_done}
+use Rattle.script_board.specs.Serve.{refusals}
 use Rattle.script_board.proofs.DealingLemmas.{told_in_turn}
 use Rattle.script_board.proofs.script_board.ScriptBoard.told.Goals as goal
 

@@ -1,9 +1,11 @@
-use Rattle.std.proofs.Common.{◌≡◌, ◌⊎◌, true, All, List, Vec, Global, ap, arith, length, map, subst, sym, ◌∙◌}
+use Rattle.std.proofs.Common.{◌≡◌, ◌⊎◌, ◌++◌, true, All, List, Vec, Global, ap, arith, length, map, refl, subst, sym, ◌∙◌}
 use Rattle.std.proofs.lemmas.List.{length-map}
-use mathlib.Core.List.{IsPrefix}
 use Rattle.authority_map.specs.Operations.{Operation}
-use Rattle.export_rounds.specs.Outcomes.{AreAll, AreOutcomes}
-use Rattle.export_rounds.specs.declared.outcome.Outcome.{Outcome}
+use Rattle.phased_board.specs.Going.{WentOnWithStops}
+use Rattle.phased_board.specs.Outcomes.{AreAll, AreOutcomes}
+use Rattle.phased_board.specs.Stops.{AreStopped, ranks_of}
+use Rattle.phased_board.specs.declared.breaks.RankStop.{RankStop}
+use Rattle.phased_board.specs.declared.outcome.Outcome.{Outcome}
 use Rattle.heat_ledger.specs.Ledger.{ShareData}
 use Rattle.mds_board.specs.History.{World}
 use Rattle.mds_types.specs.declared.order.Order.{Order}
@@ -14,7 +16,8 @@ use Rattle.script_board.specs.declared.dealing.Seat.{Seat}
 use Rattle.script_board.specs.declared.fault.Fault.{Fault}
 use Rattle.script_board.specs.Board.{BoardData}
 use Rattle.script_board.specs.Move.{move_orders}
-use Rattle.script_board.specs.Serve.{IsDealt, waiting}
+use Rattle.script_board.specs.Fault.{unless_done}
+use Rattle.script_board.specs.Serve.{IsDealt, refusals, waiting}
 use Rattle.script_board.specs.Traffic.{IsTraffic}
 use Rattle.script_board.proofs.DealingLemmas.{returned_length}
 use Rattle.script_board.proofs.ServeLemmas.{answered_ways, served_by}
@@ -52,11 +55,11 @@ put_together-after-requires g c =
 
 pub returns-in-Ok-done-clause-done : goal.returns-in-Ok-done-clause-done
 returns-in-Ok-done-clause-done g c =
-    let given : World → BoardData = λ w. record { world = w; shares = c.before-2.inside.shares.items; loads = c.before-2.inside.loads.items; kept = c.before-2.inside.kept.items } in
+    let given : World → BoardData = λ w. record { world = w; shares = c.before-2.inside.shares.items; loads = c.before-2.inside.loads.items; kept = c.before-2.inside.kept.items; stops = c.before-2.inside.stops.items } in
     let old : BoardData = given c.reopen.new.self in
     let as_before : old ≡ c.args.self = ap given c.reopen.ensures.same ∙ c.before-2.view_is in
     let now : World = c.traffic_with_totals-board.result.0 in
-    let new : List ShareData → BoardData = λ shares. record { world = now; shares = shares; loads = c.new.result.items; kept = c.new-in-Ok-done.result.items } in
+    let new : List ShareData → BoardData = λ shares. record { world = now; shares = shares; loads = c.nothing.result.0.items; kept = c.nothing.result.1.items; stops = c.nothing.result.2.items } in
     let shares : List ShareData = c.in-Ok-done.traffic.ranks.shares.items in
     let held : List (List Operation) = c.in-Ok-reopen.readers.items in
     let later : List (List Operation) = c.in-Ok-done.traffic.readers.items in
@@ -74,6 +77,8 @@ returns-in-Ok-done-clause-done g c =
     let len = c.len-ranks.ensures in
     let many = c.in-Ok-reopen.readers.ok.0 in
     let whole = c.before-2.inside.shares.ok.0 in
+    let met : List Fault = refusals answers seats ++ unless_done c.in-Ok-done.traffic.ranks.ended ++ unless_done c.in-Ok-done.traffic.ranks.deposited in
+    let stopped = c.in-Ok-done.traffic.stopped in
     let outcomes : AreOutcomes old.world now c.deref-2.result.now c.in-Ok-done.traffic.outcomes.items = rw c.in-Ok-done.is at c.traffic_with_totals-board.ensures.outcomes in
     let all : AreAll old.world now c.in-Ok-done.traffic.outcomes.items = rw c.in-Ok-done.is at c.traffic_with_totals-board.ensures.all in
     subst (λ (b : BoardData). IsTraffic c.args.self refused orders told b) (sym c.put_together-after.ensures)
@@ -85,15 +90,20 @@ returns-in-Ok-done-clause-done g c =
       readers = omega (arith, count, len, many, whole);
       informed = record {
         at_first = subst (λ (w : World). All (λ r. r ≡ w.published) held) (sym c.reopen.ensures.same) c.in-Ok-reopen.ensures.readers;
-        at_last = subst (λ (rs : List (List Operation)). All (λ r. IsPrefix r now.published ⊎ IsPrefix now.published r) rs) c.deref-in-Ok-done.ensures.value c.compare.ensures;
+        at_last = c.carried-hands.ensures.one_line;
       };
-      served = served_by true g.J.Naming.limit (map ByMap held) (map ByMap later) old (new shares) refused scripts seats answers c.in-Ok-done.traffic.ranks.ended c.in-Ok-done.traffic.ranks.deposited limit dealt
+      met = met;
+      stopped = stopped;
+      stop = subst (λ (l : List RankStop). AreStopped 8 old.world now.history l stopped) c.deref-3.ensures.value (rw c.in-Ok-done.is at c.traffic_with_totals-board.ensures.stopped);
+      all_met = c.carried-hands.ensures.told;
+      served = served_by true old.stops g.J.Naming.limit (map ByMap held) (map ByMap later) old (new shares) met scripts seats answers c.in-Ok-done.traffic.ranks.ended c.in-Ok-done.traffic.ranks.deposited limit dealt
           (rw c.in-Ok-done.is at c.traffic_with_totals-board.ensures.served) (rw c.in-Ok-done.is at c.traffic_with_totals-board.ensures.totals) (rw c.in-Ok-done.is at c.traffic_with_totals-board.ensures.ended)
-          c.traffic_with_totals-board.ensures.board c.carried-hands.ensures.told;
+          (subst (λ (l : List RankStop). WentOnWithStops true true (ranks_of l) old.world now) c.deref-3.ensures.value c.traffic_with_totals-board.ensures.board) refl;
       orders = c.carried-hands.ensures.orders ∙ (c.in-Ok.ensures.orders ∙ ap move_orders (sym as_before));
       outcomes = subst (λ (os : List Order). AreOutcomes old.world now os told) (c.deref-2.ensures.value ∙ sym c.carried-hands.ensures.orders)
           (subst (λ (ts : List Outcome). AreOutcomes old.world now c.deref-2.result.now ts) (sym c.carried-hands.ensures.outcomes) outcomes);
       all = subst (λ (ts : List Outcome). AreAll old.world now ts) (sym c.carried-hands.ensures.outcomes) all;
-      waits = c.new.ensures.items;
-      forgotten = c.new-in-Ok-done.ensures.items;
+      waits = c.nothing.ensures.loads;
+      forgotten = c.nothing.ensures.kept;
+      used = c.nothing.ensures.stops;
     })))

@@ -1,4 +1,0 @@
-pub mod Asking
-pub mod ByKind
-pub mod Going
-pub mod Ordering
