@@ -1,5 +1,6 @@
 -- Runs of the first directories go on with whole runs of others.
-use Rattle.std.proofs.Common.{◌≡◌, ◌≢◌, ◌⊎◌, ℕ, ◌+◌, ◌-◌, ◌<◌, ◌≤◌, ◌++◌, true, false, List, length, get_or, slice_index, min, ◌↔◌, take, drop, sym, ap, ◌∙◌, arith, subst, inl, inr}
+use Rattle.std.proofs.Common.{◌≡◌, ◌≢◌, ◌⊎◌, ℕ, ◌+◌, ◌-◌, ◌<◌, ◌≤◌, ◌++◌, true, false, List, length}
+use Rattle.std.proofs.Common.{get_or, slice_index, min, ◌↔◌, take, drop, sym, ap, ◌∙◌, arith, subst, inl, inr}
 use Rattle.std.proofs.lemmas.List.{get_or_append_left, get_or-append_right, get_or-drop, get_or-take, get_or_past, length-append, length-drop, length-take-le}
 use Rattle.std.proofs.lemmas.Bool.Decides.{leb_tells}
 use native.Mathlib.Decide.{ℕ_discrete}
@@ -34,8 +35,10 @@ pub record IsPiece (starts : List ℕ) (run count mid end : ℕ) : Type 0 where
   pub reach : get_or starts (run + count) 0 < end
   pub until : run + count + 1 < length starts → end ≤ get_or starts (run + count + 1) 0
 
-pub piece : (limit : ℕ) (starts cells : List ℕ) → AreRuns limit starts cells → (run last first end stop : ℕ) → IsIn starts run first → IsIn starts last (end - 1) → first < end → end ≤ limit
-    → ((dir : ℕ) → (slice_index starts run ≤ dir) × (dir < stop) ↔ (dir < limit) × IsIn starts run dir) → IsPiece starts run (last + 1 - (run + 1)) (min stop end) end
+pub piece : (limit : ℕ) (starts cells : List ℕ) → AreRuns limit starts cells → (run last first end stop : ℕ) → IsIn starts run first
+    → IsIn starts last (end - 1) → first < end → end ≤ limit
+    → ((dir : ℕ) → (slice_index starts run ≤ dir) × (dir < stop) ↔ (dir < limit) × IsIn starts run dir)
+    → IsPiece starts run (last + 1 - (run + 1)) (min stop end) end
 piece limit starts cells runs run last first end stop p q less few inside = record {
   there = omega (arith, le, q.there);
   seam = λ some. omega (arith, stop_is some, early some);
@@ -59,7 +62,10 @@ piece limit starts cells runs run last first end stop p q less few inside = reco
         let next : run + 1 < length starts = omega (arith, some, q.there) in
         let rise : get_or starts run 0 < get_or starts (run + 1) 0 = runs.order.rising run next in
         let before : get_or starts (run + 1) 0 - 1 < stop =
-        ((inside (get_or starts (run + 1) 0 - 1)).1 (omega (arith, early some, few), record { there = p.there; from = omega (arith, rise); until = λ h. omega (arith, rise) })).1 in
+        ((inside (get_or starts (run + 1) 0 - 1)).1 (
+          omega (arith, early some, few),
+          record { there = p.there; from = omega (arith, rise); until = λ h. omega (arith, rise) },
+        )).1 in
         elim (leb_tells stop (get_or starts (run + 1) 0)) [
           | inl past ↦ omega (arith, past.1, before, rise)
           | inr less ↦ absurd (omega (arith, (((inside (get_or starts (run + 1) 0)).0 (omega (arith, rise), less.1)).1).until next))
@@ -70,7 +76,8 @@ piece limit starts cells runs run last first end stop p q less few inside = reco
         let in_run : IsIn starts run (end - 1) = subst (λ (n : ℕ). IsIn starts n (end - 1)) (sym e) q in
         omega (arith, ((inside (end - 1)).1 (omega (arith, less, few), in_run)).1)
 
-module _ (limit : ℕ) (starts cells made filled : List ℕ) (run count mid end : ℕ) (old : AreRuns limit starts cells) (runs : AreRuns limit made filled) (before : AreBefore mid made) (piece : IsPiece starts run count mid end) where
+module _ (limit : ℕ) (starts cells made filled : List ℕ) (run count mid end : ℕ) (old : AreRuns limit starts cells)
+    (runs : AreRuns limit made filled) (before : AreBefore mid made) (piece : IsPiece starts run count mid end) where
   abbrev all : List ℕ
   all = made ++ some_of starts (run + 1) count
 
@@ -100,13 +107,15 @@ module _ (limit : ℕ) (starts cells made filled : List ℕ) (run count mid end 
   from_old k = run + 1 + (k - length made)
 
   right : (k : ℕ) → length made ≤ k → k < length made + count → get_or all k 0 ≡ get_or starts (from_old k) 0
-  right k le h = get_or-append_right made (some_of starts (run + 1) count) (length made) k 0 refl_length le ∙ some_item starts (run + 1) count (k - length made) (omega (arith, le, h))
+  right k le h = get_or-append_right made (some_of starts (run + 1) count) (length made) k 0 refl_length le
+      ∙ some_item starts (run + 1) count (k - length made) (omega (arith, le, h))
     where
       refl_length : length made ≡ length made
       refl_length = cc
 
   right_cell : (k : ℕ) → length made ≤ k → k < length made + count → get_or all_cells k 0 ≡ get_or cells (from_old k) 0
-  right_cell k le h = get_or-append_right filled (some_of cells (run + 1) count) (length made) k 0 runs.sized le ∙ some_item cells (run + 1) count (k - length made) (omega (arith, le, h))
+  right_cell k le h = get_or-append_right filled (some_of cells (run + 1) count) (length made) k 0 runs.sized le
+      ∙ some_item cells (run + 1) count (k - length made) (omega (arith, le, h))
 
   start_at : (k j : ℕ) → length made ≤ k → k < length made + count → from_old k ≡ j → get_or all k 0 ≡ get_or starts j 0
   start_at k j le h e = right k le h ∙ ap (λ (n : ℕ). get_or starts n 0) e
@@ -121,11 +130,22 @@ module _ (limit : ℕ) (starts cells made filled : List ℕ) (run count mid end 
   rising k h (inr less) d = omega (arith, left k (omega (arith, less.1)), left (k + 1) less.1, runs.order.rising k less.1)
   rising k h (inl le) (yes e) =
       let some : 0 < count = omega (arith, h, longer, e) in
-      omega (arith, left k (omega (arith, e)), before k (omega (arith, e)), start_at (k + 1) (run + 1) le.1 (omega (arith, e, some)) (omega (arith, e)), piece.seam some)
+      omega (
+        arith,
+        left k (omega (arith, e)),
+        before k (omega (arith, e)),
+        start_at (k + 1) (run + 1) le.1 (omega (arith, e, some)) (omega (arith, e)),
+        piece.seam some,
+      )
   rising k h (inl le) (no n) =
       let at : length made ≤ k = omega (arith, le.1, n) in
       let j : from_old k + 1 < length starts = omega (arith, at, h, longer, piece.there) in
-      omega (arith, right k at (omega (arith, h, longer)), start_at (k + 1) (from_old k + 1) (omega (arith, at)) (omega (arith, h, longer)) (omega (arith, at)), old.order.rising (from_old k) j)
+      omega (
+        arith,
+        right k at (omega (arith, h, longer)),
+        start_at (k + 1) (from_old k + 1) (omega (arith, at)) (omega (arith, h, longer)) (omega (arith, at)),
+        old.order.rising (from_old k) j,
+      )
 
   below : (k : ℕ) → k < length all → Sides (length made) k → get_or all k 0 < limit
   below k h (inr less) = omega (arith, left k less.1, runs.below k less.1)
@@ -163,13 +183,21 @@ module _ (limit : ℕ) (starts cells made filled : List ℕ) (run count mid end 
       let next : k + 1 < length made = omega (arith, less, n) in
       let limited : d < get_or made (k + 1) 0 = omega (arith, i.until (omega (arith, next, longer)), left (k + 1) next) in
       (record { there = less; from = omega (arith, i.from, left k less); until = λ l. limited }, omega (arith, limited, before (k + 1) next))
-  stays k d i h less (yes e) = (record { there = less; from = omega (arith, i.from, left k less); until = λ l. absurd (omega (arith, l, e)) }, last (ℕ_discrete count 0))
+  stays k d i h less (yes e) = (
+    record { there = less; from = omega (arith, i.from, left k less); until = λ l. absurd (omega (arith, l, e)) },
+    last (ℕ_discrete count 0),
+  )
     where
       last : Dec (count ≡ 0) → d < mid
       last (yes none) = omega (arith, h, piece.single none)
       last (no n) =
           let some : 0 < count = omega (arith, n) in
-          omega (arith, i.until (omega (arith, e, longer, some)), start_at (k + 1) (run + 1) (omega (arith, e)) (omega (arith, e, some)) (omega (arith, e)), piece.seam some)
+          omega (
+            arith,
+            i.until (omega (arith, e, longer, some)),
+            start_at (k + 1) (run + 1) (omega (arith, e)) (omega (arith, e, some)) (omega (arith, e)),
+            piece.seam some,
+          )
 
   in_old : (k d : ℕ) → IsIn all k d → d < end → length made ≤ k → Dec (from_old k ≡ run + count) → IsIn starts (from_old k) d
   in_old k d i h le (yes e) =
@@ -188,7 +216,8 @@ module _ (limit : ℕ) (starts cells made filled : List ℕ) (run count mid end 
         until = λ m. omega (arith, i.until (omega (arith, next, longer)), start_at (k + 1) (from_old k + 1) (omega (arith, le)) next (omega (arith, le)));
       }
 
-  each : (now want : ℕ → ℕ) → HasCells limit starts cells now 0 0 → HasFirst mid made filled want → ((d : ℕ) → run + 1 < length starts → get_or starts (run + 1) 0 ≤ d → d < end → want d ≡ now d) → end ≤ limit
+  each : (now want : ℕ → ℕ) → HasCells limit starts cells now 0 0 → HasFirst mid made filled want
+      → ((d : ℕ) → run + 1 < length starts → get_or starts (run + 1) 0 ≤ d → d < end → want d ≡ now d) → end ≤ limit
       → (k d : ℕ) → d < end → IsIn all k d → Sides (length made) k → get_or all_cells k 0 ≡ want d
   each now want has first same few k d h i (inr less) =
       let s = stays k d i h less.1 (ℕ_discrete (k + 1) (length made)) in
@@ -220,7 +249,8 @@ module _ (limit : ℕ) (starts cells made filled : List ℕ) (run count mid end 
       let next : get_or all_cells (k + 1) 0 ≡ get_or cells (from_old k + 1) 0 = cell_at (k + 1) (from_old k + 1) le.1 l (omega (arith, at)) in
       apart_old now has (from_old k) (omega (arith, at, l, piece.there)) (sym (right_cell k at (omega (arith, l))) ∙ (e ∙ next))
 
-  pub cells_appended : (now want : ℕ → ℕ) → HasCells limit starts cells now 0 0 → HasFirst mid made filled want → get_or filled (length filled - 1) 0 ≡ get_or cells run 0
+  pub cells_appended : (now want : ℕ → ℕ) → HasCells limit starts cells now 0 0 → HasFirst mid made filled want
+      → get_or filled (length filled - 1) 0 ≡ get_or cells run 0
       → ((d : ℕ) → run + 1 < length starts → get_or starts (run + 1) 0 ≤ d → d < end → want d ≡ now d) → end ≤ limit → HasFirst end all all_cells want
   cells_appended now want has first ends same few = record {
     each = λ k d h i. each now want has first same few k d h i (leb_tells (length made) k);

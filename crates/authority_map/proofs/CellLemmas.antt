@@ -1,5 +1,6 @@
 -- The runs' cells follow the operations.
-use Rattle.std.proofs.Common.{◌≡◌, ℕ, zero, suc, ◌+◌, ◌-◌, ◌*◌, ◌/◌, ◌<◌, ◌≤◌, ◌≢◌, Bool, true, false, ◌==◌, ◌||◌, if◌then◌else◌, List, [], ◌∷◌, ◌++◌, length, get_or, replicate, refl, sym, ap, ◌∙◌, arith, Option, Some, None, All}
+use Rattle.std.proofs.Common.{◌≡◌, ℕ, zero, suc, ◌+◌, ◌-◌, ◌*◌, ◌/◌, ◌<◌, ◌≤◌, ◌≢◌, Bool, true, false, ◌==◌, ◌||◌, if◌then◌else◌}
+use Rattle.std.proofs.Common.{List, [], ◌∷◌, ◌++◌, length, get_or, replicate, refl, sym, ap, ◌∙◌, arith, Option, Some, None, All}
 use Rattle.std.proofs.lemmas.List.{length-replicate, get_or-replicate}
 use Rattle.std.proofs.lemmas.List.Sums.{fold-append}
 use Rattle.std.proofs.lemmas.Bool.Decides.{nat_tests}
@@ -38,10 +39,12 @@ not_named [] d h = refl
 not_named (x ∷ xs) d h = rw (differs x d (h 0 (omega arith)), not_named xs d (λ k l. h (suc k) (omega arith))) refl
 
 -- what one operation does to the cells
-pub cell_set : (ops : List Operation) (dirs : List ℕ) (rank d : ℕ) → cell_of (rank_after (ops ++ SetTo dirs rank ∷ []) d) ≡ (if names dirs d then rank + 1 else cell_of (rank_after ops d))
+pub cell_set : (ops : List Operation) (dirs : List ℕ) (rank d : ℕ)
+    → cell_of (rank_after (ops ++ SetTo dirs rank ∷ []) d) ≡ (if names dirs d then rank + 1 else cell_of (rank_after ops d))
 cell_set ops dirs rank d = ap cell_of (rank_after-snoc ops (SetTo dirs rank) d) ∙ cell_of_if (names dirs d) rank (rank_after ops d)
 
-pub cell_cleared : (ops : List Operation) (dir d : ℕ) → cell_of (rank_after (ops ++ Clear dir ∷ []) d) ≡ (if names (dir ∷ []) d then 0 else cell_of (rank_after ops d))
+pub cell_cleared : (ops : List Operation) (dir d : ℕ)
+    → cell_of (rank_after (ops ++ Clear dir ∷ []) d) ≡ (if names (dir ∷ []) d then 0 else cell_of (rank_after ops d))
 cell_cleared ops dir d =
     ap cell_of (rank_after-snoc ops (Clear dir) d) ∙ cell_of_clear (dir == d) (rank_after ops d)
     ∙ ap (λ (b : Bool). (if b then 0 else cell_of (rank_after ops d))) (sym (or_false (dir == d)))
@@ -56,9 +59,11 @@ pub cells_written : (limit : ℕ) (runs : Runs) (dirs : List ℕ) (cell : ℕ) (
     → ((d : ℕ) → cell_of (rank_after after d) ≡ (if names dirs d then cell else cell_of (rank_after ops d)))
     → ((d : ℕ) → limit ≤ d → rank_after ops d ≡ None) → AreCells limit runs after
 cells_written limit runs dirs cell ops after below new step past = record {
-  held = same_cells limit runs.starts.items runs.cells.items (λ d. if names dirs d then cell else cell_of (rank_after ops d)) (λ d. cell_of (rank_after after d)) 0 0 new (λ d. sym (step d));
+  held = same_cells limit runs.starts.items runs.cells.items (λ d. if names dirs d then cell else cell_of (rank_after ops d))
+      (λ d. cell_of (rank_after after d)) 0 0 new (λ d. sym (step d));
   past = λ d h. no_cell (rank_after after d)
-      (step d ∙ ap (λ (b : Bool). (if b then cell else cell_of (rank_after ops d))) (not_named dirs d (λ k inside e. absurd (omega (arith, below k 0 inside, e, h)))) ∙ ap cell_of (past d h));
+      (step d ∙ ap (λ (b : Bool). (if b then cell else cell_of (rank_after ops d)))
+      (not_named dirs d (λ k inside e. absurd (omega (arith, below k 0 inside, e, h)))) ∙ ap cell_of (past d h));
 }
 
 lone : (x k : ℕ) → get_or (x ∷ []) k x ≡ x
@@ -67,10 +72,19 @@ lone x (suc k) = refl
 
 -- one run without a rank
 pub runs_none : (limit : ℕ) → 1 ≤ limit → AreRuns limit (0 ∷ []) (0 ∷ [])
-runs_none limit some = record { order = record { some = omega arith; first = refl; rising = λ run h. absurd (omega arith) }; sized = refl; below = λ run h. omega (arith, lone 0 run); small = λ run. omega (arith, lone 0 run) }
+runs_none limit some = record {
+  order = record { some = omega arith; first = refl; rising = λ run h. absurd (omega arith) };
+  sized = refl;
+  below = λ run h. omega (arith, lone 0 run);
+  small = λ run. omega (arith, lone 0 run);
+}
 
 pub index_none : (limit : ℕ) → IsIndex limit (0 ∷ []) (replicate (limit / 256 + 2) 0)
-index_none limit = record { sized = length-replicate (limit / 256 + 2) 0; each = λ block h. first _ (256 * block) (get_or-replicate (limit / 256 + 2) block 0 0 (omega (arith, h, length-replicate {A = ℕ} (limit / 256 + 2) 0))) }
+index_none limit = record {
+  sized = length-replicate (limit / 256 + 2) 0;
+  each = λ block h. first _ (256 * block)
+      (get_or-replicate (limit / 256 + 2) block 0 0 (omega (arith, h, length-replicate {A = ℕ} (limit / 256 + 2) 0)));
+}
   where
     first : (run dir : ℕ) → run ≡ 0 → IsIn (0 ∷ []) run dir
     first run dir none = rw none (record { there = omega arith; from = omega arith; until = λ h. absurd (omega arith) })

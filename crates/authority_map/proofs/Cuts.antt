@@ -21,7 +21,8 @@ side place j = step (ℕ_discrete j place) (leb_tells place j)
     step (no n) (inr less) = Before j less.1
     step (no n) (inl le) = let e : (j - 1) + 1 ≡ j = omega (arith, le.1, n) in subst (Side place) e (After (j - 1) (omega (arith, le.1, n)))
 
-module _ (limit : ℕ) (starts cells : List ℕ) (run dir : ℕ) (runs : AreRuns limit starts cells) (inside : IsIn starts run dir) (later : get_or starts run 0 < dir) (below : dir < limit) where
+module _ (limit : ℕ) (starts cells : List ℕ) (run dir : ℕ) (runs : AreRuns limit starts cells) (inside : IsIn starts run dir)
+    (later : get_or starts run 0 < dir) (below : dir < limit) where
   abbrev more : List ℕ
   more = insert starts (run + 1) dir
 
@@ -57,14 +58,25 @@ module _ (limit : ℕ) (starts cells : List ℕ) (run dir : ℕ) (runs : AreRuns
 
   pub runs_cut : AreRuns limit more filled
   runs_cut = record {
-    order = record { some = omega (arith, longer); first = start_before 0 (omega arith) ∙ runs.order.first; rising = λ k h. rising k h (side (run + 1) k) (ℕ_discrete k run) };
+    order = record {
+      some = omega (arith, longer);
+      first = start_before 0 (omega arith) ∙ runs.order.first;
+      rising = λ k h. rising k h (side (run + 1) k) (ℕ_discrete k run);
+    };
     sized = length-insert cells (run + 1) (get_or cells run 0) room_too ∙ ap (λ (n : ℕ). n + 1) runs.sized ∙ sym longer;
     below = λ k h. low k h (side (run + 1) k);
     small = λ k. few k (side (run + 1) k);
   }
     where
       rising : (k : ℕ) → k + 1 < length more → Side (run + 1) k → Dec (k ≡ run) → get_or more k 0 < get_or more (k + 1) 0
-      rising j h (Before k less) (yes e) = omega (arith, start_before k less, ap (λ (k : ℕ). get_or more (k + 1) 0) e, ap (λ (k : ℕ). get_or starts k 0) e, start_here, later)
+      rising j h (Before k less) (yes e) = omega (
+        arith,
+        start_before k less,
+        ap (λ (k : ℕ). get_or more (k + 1) 0) e,
+        ap (λ (k : ℕ). get_or starts k 0) e,
+        start_here,
+        later,
+      )
       rising j h (Before k less) (no n) = omega (arith, start_before k less, start_before (k + 1) (omega arith), runs.order.rising k (omega (arith, longer)))
       rising j h Here o = omega (arith, start_here, start_after (run + 1) (omega arith), inside.until (omega (arith, longer)))
       rising j h (After k le) o = omega (arith, start_after k le, start_after (k + 1) (omega arith), runs.order.rising k (omega (arith, longer)))
@@ -88,35 +100,56 @@ module _ (limit : ℕ) (starts cells : List ℕ) (run dir : ℕ) (runs : AreRuns
 
   was : (k d : ℕ) → IsIn more k d → Side (run + 1) k → Dec (k ≡ run) → Was k d
   was j d p (Before k less) (yes e) =
-      let until : run + 1 < length starts → d < get_or starts (run + 1) 0 = (λ h. omega (arith, inside.until h, p.until (omega (arith, longer)), ap (λ (k : ℕ). get_or more (k + 1) 0) e, start_here)) in
+      let until : run + 1 < length starts → d < get_or starts (run + 1) 0 =
+      (λ h. omega (arith, inside.until h, p.until (omega (arith, longer)), ap (λ (k : ℕ). get_or more (k + 1) 0) e, start_here)) in
       record {
         old = k;
-        held = record { there = omega arith; from = omega (arith, start_before k less, p.from); until = λ h. omega (arith, until (omega arith), ap (λ (k : ℕ). get_or starts (k + 1) 0) e) };
+        held = record {
+          there = omega arith;
+          from = omega (arith, start_before k less, p.from);
+          until = λ h. omega (arith, until (omega arith), ap (λ (k : ℕ). get_or starts (k + 1) 0) e);
+        };
         cell = cell_before k less;
         start = λ s. start_before k less ∙ s;
       }
   was j d p (Before k less) (no n) = record {
     old = k;
-    held = record { there = omega (arith, inside.there); from = omega (arith, start_before k less, p.from); until = λ h. omega (arith, p.until (omega (arith, longer)), start_before (k + 1) (omega arith)) };
+    held = record {
+      there = omega (arith, inside.there);
+      from = omega (arith, start_before k less, p.from);
+      until = λ h. omega (arith, p.until (omega (arith, longer)), start_before (k + 1) (omega arith));
+    };
     cell = cell_before k less;
     start = λ s. start_before k less ∙ s;
   }
   was j d p Here o = record {
     old = run;
-    held = record { there = inside.there; from = omega (arith, later, start_here, p.from); until = λ h. omega (arith, p.until (omega (arith, longer)), start_after (run + 1) (omega arith)) };
+    held = record {
+      there = inside.there;
+      from = omega (arith, later, start_here, p.from);
+      until = λ h. omega (arith, p.until (omega (arith, longer)), start_after (run + 1) (omega arith));
+    };
     cell = cell_here;
     start = λ s. absurd (omega (arith, later, start_here, p.from));
   }
   was j d p (After k le) o = record {
     old = k;
-    held = record { there = omega (arith, p.there, longer); from = omega (arith, start_after k le, p.from); until = λ h. omega (arith, p.until (omega (arith, longer)), start_after (k + 1) (omega arith)) };
+    held = record {
+      there = omega (arith, p.there, longer);
+      from = omega (arith, start_after k le, p.from);
+      until = λ h. omega (arith, p.until (omega (arith, longer)), start_after (k + 1) (omega arith));
+    };
     cell = cell_after k le;
     start = λ s. start_after k le ∙ s;
   }
 
   pub starts_cut : StartsAt more dir
   starts_cut k p =
-      let here : IsIn more (run + 1) dir = record { there = omega (arith, longer, inside.there); from = omega (arith, start_here); until = λ h. omega (arith, start_after (run + 1) (omega arith), inside.until (omega (arith, longer))) } in
+      let here : IsIn more (run + 1) dir = record {
+        there = omega (arith, longer, inside.there);
+        from = omega (arith, start_here);
+        until = λ h. omega (arith, start_after (run + 1) (omega arith), inside.until (omega (arith, longer)));
+      } in
       ap (λ (k : ℕ). get_or more k 0) (one_run limit more filled runs_cut k (run + 1) dir p here) ∙ start_here
 
   pub others_cut : (other : ℕ) → StartsAt starts other → StartsAt more other
@@ -128,7 +161,8 @@ module _ (limit : ℕ) (starts cells : List ℕ) (run dir : ℕ) (runs : AreRuns
     apart = λ k h a b. apart k h a b (side (run + 1) k) (ℕ_discrete k run);
   }
     where
-      apart : (k : ℕ) → k + 1 < length more → get_or more (k + 1) 0 ≢ this → get_or more (k + 1) 0 ≢ dir → Side (run + 1) k → Dec (k ≡ run) → get_or filled k 0 ≢ get_or filled (k + 1) 0
+      apart : (k : ℕ) → k + 1 < length more → get_or more (k + 1) 0 ≢ this → get_or more (k + 1) 0 ≢ dir → Side (run + 1) k → Dec (k ≡ run)
+          → get_or filled k 0 ≢ get_or filled (k + 1) 0
       apart j h a b (Before k less) (yes e) = λ same. b (ap (λ (k : ℕ). get_or more (k + 1) 0) e ∙ start_here)
       apart j h a b (Before k less) (no n) =
           let other = (λ (s : get_or starts (k + 1) 0 ≡ this). a (start_before (k + 1) (omega arith) ∙ s)) in
@@ -159,7 +193,12 @@ module _ (limit : ℕ) (starts cells : List ℕ) (run dir : ℕ) (runs : AreRuns
     where
       past_cut : Dec (run + 1 ≡ k) → dir < d
       past_cut (yes e) = omega (arith, inside.until (omega (arith, p.there, past.1)), ap (λ (j : ℕ). get_or starts j 0) e, p.from)
-      past_cut (no m) = omega (arith, inside.until (omega (arith, p.there, past.1)), rises_to starts runs.order (run + 1) k (omega (arith, past.1, m)) p.there, p.from)
+      past_cut (no m) = omega (
+        arith,
+        inside.until (omega (arith, p.there, past.1)),
+        rises_to starts runs.order (run + 1) k (omega (arith, past.1, m)) p.there,
+        p.from,
+      )
 
   -- a later one is in the run that follows
   moves : (k d : ℕ) → IsIn starts k d → dir ≤ d → Dec (k ≡ run) → Order run k → IsIn more (k + 1) d
@@ -179,15 +218,25 @@ module _ (limit : ℕ) (starts cells : List ℕ) (run dir : ℕ) (runs : AreRuns
     where
       before_cut : Dec (k + 1 ≡ run) → d < dir
       before_cut (yes e) = omega (arith, p.until (omega (arith, inside.there, past.1)), ap (λ (j : ℕ). get_or starts j 0) e, later)
-      before_cut (no m) = omega (arith, p.until (omega (arith, inside.there, past.1)), rises_to starts runs.order (k + 1) run (omega (arith, past.1, m)) inside.there, later)
+      before_cut (no m) = omega (
+        arith,
+        p.until (omega (arith, inside.there, past.1)),
+        rises_to starts runs.order (k + 1) run (omega (arith, past.1, m)) inside.there,
+        later,
+      )
 
   pub index_cut : (index new : List ℕ) (first : ℕ) → first ≡ (dir + 255) / 256 → IsIndex limit starts index → IsOneMore first index new → IsIndex limit more new
-  index_cut index new first at was operation = record { sized = operation.sized ∙ was.sized; each = λ b h. each b (omega (arith, h, operation.sized)) (leb_tells first b) }
+  index_cut index new first at was operation = record {
+    sized = operation.sized ∙ was.sized;
+    each = λ b h. each b (omega (arith, h, operation.sized)) (leb_tells first b);
+  }
     where
       each : (b : ℕ) → b < length index → Order first b → IsIn more (get_or new b 0) (256 * b)
       each b h (inl le) =
           let old = get_or index b 0 in
-          subst (λ (j : ℕ). IsIn more j (256 * b)) (sym (operation.after b le.1 h)) (moves old (256 * b) (was.each b h) (omega (arith, le.1, at)) (ℕ_discrete old run) (leb_tells run old))
+          subst (λ (j : ℕ). IsIn more j (256 * b)) (sym (operation.after b le.1 h))
+          (moves old (256 * b) (was.each b h) (omega (arith, le.1, at)) (ℕ_discrete old run) (leb_tells run old))
       each b h (inr less) =
           let old = get_or index b 0 in
-          subst (λ (j : ℕ). IsIn more j (256 * b)) (sym (operation.before b less.1)) (stays old (256 * b) (was.each b h) (omega (arith, less.1, at)) (ℕ_discrete old run) (leb_tells old run))
+          subst (λ (j : ℕ). IsIn more j (256 * b)) (sym (operation.before b less.1))
+          (stays old (256 * b) (was.each b h) (omega (arith, less.1, at)) (ℕ_discrete old run) (leb_tells old run))

@@ -18,7 +18,8 @@ few_before limit starts cells dir runs before =
 abbrev pub HaveAll : ℕ → ℕ → ℕ → (ℕ → ℕ) → Type 0
 HaveAll first end cell want = (d : ℕ) → first ≤ d → d < end → want d ≡ cell
 
-module _ (limit : ℕ) (starts cells : List ℕ) (first end cell : ℕ) (runs : AreRuns limit starts cells) (before : AreBefore first starts) (some : first < end) (below : end ≤ limit) (low : cell ≤ 64) where
+module _ (limit : ℕ) (starts cells : List ℕ) (first end cell : ℕ) (runs : AreRuns limit starts cells) (before : AreBefore first starts)
+    (some : first < end) (below : end ≤ limit) (low : cell ≤ 64) where
   abbrev more : List ℕ
   more = starts ++ first ∷ []
 
@@ -48,13 +49,15 @@ module _ (limit : ℕ) (starts cells : List ℕ) (first end cell : ℕ) (runs : 
 
   rising : (k : ℕ) → k + 1 < length more → Dec (k + 1 ≡ length starts) → get_or more k 0 < get_or more (k + 1) 0
   rising k h (yes e) = let l : k < length starts = omega (arith, e) in omega (arith, start_before k l, start_at (k + 1) e, before k l)
-  rising k h (no n) = let l : k + 1 < length starts = omega (arith, h, longer, n) in omega (arith, start_before k (omega (arith, l)), start_before (k + 1) l, runs.order.rising k l)
+  rising k h (no n) = let l : k + 1 < length starts = omega (arith, h, longer, n) in
+      omega (arith, start_before k (omega (arith, l)), start_before (k + 1) l, runs.order.rising k l)
 
   within : (k : ℕ) → k < length more → Dec (k ≡ length starts) → get_or more k 0 < first + 1
   within k h (yes e) = omega (arith, start_at k e)
   within k h (no n) = let l : k < length starts = omega (arith, h, longer, n) in omega (arith, start_before k l, before k l)
 
-  tame : (k : ℕ) → Dec (k ≡ length starts) → ((leb (length starts) k ≡ true) × (length starts ≤ k)) ⊎ ((leb (length starts) k ≡ false) × (k < length starts)) → get_or filled k 0 ≤ 64
+  tame : (k : ℕ) → Dec (k ≡ length starts) → ((leb (length starts) k ≡ true) × (length starts ≤ k))
+      ⊎ ((leb (length starts) k ≡ false) × (k < length starts)) → get_or filled k 0 ≤ 64
   tame k (yes e) o = omega (arith, cell_at k e, low)
   tame k (no n) (inr less) = omega (arith, cell_before k less.1, runs.small k)
   tame k (no n) (inl le) = omega (arith, get_or_past filled k 0 (omega (arith, le.1, n, length-append cells (cell ∷ []), runs.sized)))
@@ -64,7 +67,11 @@ module _ (limit : ℕ) (starts cells : List ℕ) (first end cell : ℕ) (runs : 
 
   pub runs_extended : AreRuns limit more filled
   runs_extended = record {
-    order = record { some = omega (arith, longer); first = start_before 0 (omega (arith, runs.order.some)) ∙ runs.order.first; rising = λ k h. rising k h (ℕ_discrete (k + 1) (length starts)) };
+    order = record {
+      some = omega (arith, longer);
+      first = start_before 0 (omega (arith, runs.order.some)) ∙ runs.order.first;
+      rising = λ k h. rising k h (ℕ_discrete (k + 1) (length starts));
+    };
     sized = length-append cells (cell ∷ []) ∙ (ap (λ (n : ℕ). n + 1) runs.sized ∙ sym longer);
     below = λ k h. omega (arith, before_extended k h, below);
     small = λ k. tame k (ℕ_discrete k (length starts)) (leb_tells (length starts) k);
@@ -82,11 +89,14 @@ module _ (limit : ℕ) (starts cells : List ℕ) (first end cell : ℕ) (runs : 
   earlier run d i l (yes e) = omega (arith, i.until (omega (arith, e, longer)), start_at (run + 1) e)
   earlier run d i l (no n) = let h : run + 1 < length starts = omega (arith, l, n) in omega (arith, (stays run d i l).until h, before (run + 1) h)
 
-  held : (want : ℕ → ℕ) → HasFirst first starts cells want → HaveAll first end cell want → (run d : ℕ) → d < end → IsIn more run d → Dec (run ≡ length starts) → get_or filled run 0 ≡ want d
+  held : (want : ℕ → ℕ) → HasFirst first starts cells want → HaveAll first end cell want → (run d : ℕ) → d < end → IsIn more run d
+      → Dec (run ≡ length starts) → get_or filled run 0 ≡ want d
   held want has here run d h i (yes e) = cell_at run e ∙ sym (here d (omega (arith, i.from, start_at run e)) h)
-  held want has here run d h i (no n) = let l : run < length starts = omega (arith, i.there, longer, n) in cell_before run l ∙ has.each run d (earlier run d i l (ℕ_discrete (run + 1) (length starts))) (stays run d i l)
+  held want has here run d h i (no n) = let l : run < length starts = omega (arith, i.there, longer, n) in
+      cell_before run l ∙ has.each run d (earlier run d i l (ℕ_discrete (run + 1) (length starts))) (stays run d i l)
 
-  apart : (want : ℕ → ℕ) → HasFirst first starts cells want → get_or cells (length cells - 1) 0 ≢ cell → (run : ℕ) → run + 1 < length more → Dec (run + 1 ≡ length starts) → get_or filled run 0 ≢ get_or filled (run + 1) 0
+  apart : (want : ℕ → ℕ) → HasFirst first starts cells want → get_or cells (length cells - 1) 0 ≢ cell → (run : ℕ) → run + 1 < length more
+      → Dec (run + 1 ≡ length starts) → get_or filled run 0 ≢ get_or filled (run + 1) 0
   apart want has differs run h (yes e) = λ same.
       let l : run < length starts = omega (arith, e) in
       let last : length cells - 1 ≡ run = omega (arith, e, runs.sized) in
@@ -95,14 +105,17 @@ module _ (limit : ℕ) (starts cells : List ℕ) (first end cell : ℕ) (runs : 
       let l : run + 1 < length starts = omega (arith, h, longer, n) in
       has.apart run l (sym (cell_before run (omega (arith, l))) ∙ (same ∙ cell_before (run + 1) l))
 
-  pub cells_extended : get_or cells (length cells - 1) 0 ≢ cell → (want : ℕ → ℕ) → HasFirst first starts cells want → HaveAll first end cell want → HasFirst end more filled want
+  pub cells_extended : get_or cells (length cells - 1) 0 ≢ cell → (want : ℕ → ℕ) → HasFirst first starts cells want
+      → HaveAll first end cell want → HasFirst end more filled want
   cells_extended differs want has here = record {
     each = λ run d h i. held want has here run d h i (ℕ_discrete run (length starts));
     apart = λ run h. apart want has differs run h (ℕ_discrete (run + 1) (length starts));
   }
 
-  kept : (want : ℕ → ℕ) → HasFirst first starts cells want → HaveAll first end cell want → get_or cells (length cells - 1) 0 ≡ cell → (run d : ℕ) → d < end → IsIn starts run d → Dec (run + 1 ≡ length starts) → get_or cells run 0 ≡ want d
-  kept want has here same run d h i (no n) = let l : run + 1 < length starts = omega (arith, i.there, n) in has.each run d (omega (arith, i.until l, before (run + 1) l)) i
+  kept : (want : ℕ → ℕ) → HasFirst first starts cells want → HaveAll first end cell want → get_or cells (length cells - 1) 0 ≡ cell
+      → (run d : ℕ) → d < end → IsIn starts run d → Dec (run + 1 ≡ length starts) → get_or cells run 0 ≡ want d
+  kept want has here same run d h i (no n) = let l : run + 1 < length starts = omega (arith, i.there, n) in
+      has.each run d (omega (arith, i.until l, before (run + 1) l)) i
   kept want has here same run d h i (yes e) =
       let last : length cells - 1 ≡ run = omega (arith, e, runs.sized) in
       let cell_is : get_or cells run 0 ≡ cell = subst (λ (n : ℕ). get_or cells n 0 ≡ cell) last same in
@@ -112,7 +125,8 @@ module _ (limit : ℕ) (starts cells : List ℕ) (first end cell : ℕ) (runs : 
       ]
 
   -- the last run has that cell already
-  pub cells_kept : get_or cells (length cells - 1) 0 ≡ cell → (want : ℕ → ℕ) → HasFirst first starts cells want → HaveAll first end cell want → HasFirst end starts cells want
+  pub cells_kept : get_or cells (length cells - 1) 0 ≡ cell → (want : ℕ → ℕ) → HasFirst first starts cells want
+      → HaveAll first end cell want → HasFirst end starts cells want
   cells_kept same want has here = record {
     each = λ run d h i. kept want has here same run d h i (ℕ_discrete (run + 1) (length starts));
     apart = has.apart;

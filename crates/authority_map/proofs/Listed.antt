@@ -1,5 +1,6 @@
 -- A list of directories that rises, parted at a directory.
-use Rattle.std.proofs.Common.{◌≡◌, ◌≢◌, ◌⊎◌, ℕ, zero, suc, ◌+◌, ◌-◌, ◌<◌, ◌≤◌, ◌==◌, ◌||◌, Bool, true, false, if◌then◌else◌, List, [], ◌∷◌, length, get_or, refl, arith, subst, inl, inr}
+use Rattle.std.proofs.Common.{◌≡◌, ◌≢◌, ◌⊎◌, ℕ, zero, suc, ◌+◌, ◌-◌, ◌<◌, ◌≤◌, ◌==◌, ◌||◌, Bool}
+use Rattle.std.proofs.Common.{true, false, if◌then◌else◌, List, [], ◌∷◌, length, get_or, refl, arith, subst, inl, inr}
 use Rattle.std.proofs.lemmas.Bool.Decides.{nat_tests, leb_tells}
 use Rattle.std.specs.List.Sorted.{IsStrictlyIncreasing}
 use lib.Dec.{leb}
@@ -43,7 +44,8 @@ from_place dirs up i j le h =
     subst (λ (k : ℕ). get_or dirs i 0 + (j - i) ≤ get_or dirs k 0) e (later dirs up i (j - i) (omega (arith, e, h)))
 
 -- as many come before a later directory, up to the next that is listed
-pub come_on : (dirs : List ℕ) → IsStrictlyIncreasing dirs → (count first end : ℕ) → ComeBefore dirs count first → first ≤ end → (count < length dirs → end ≤ get_or dirs count 0) → ComeBefore dirs count end
+pub come_on : (dirs : List ℕ) → IsStrictlyIncreasing dirs → (count first end : ℕ) → ComeBefore dirs count first → first ≤ end
+    → (count < length dirs → end ≤ get_or dirs count 0) → ComeBefore dirs count end
 come_on dirs up count first end come le next = record {
   within = come.within;
   before = λ k h. omega (arith, come.before k h, le);
@@ -51,7 +53,8 @@ come_on dirs up count first end come le next = record {
 }
 
 -- one more comes before the directory after the listed one
-pub come_past : (dirs : List ℕ) → IsStrictlyIncreasing dirs → (count dir : ℕ) → ComeBefore dirs count dir → count < length dirs → get_or dirs count 0 ≡ dir → ComeBefore dirs (count + 1) (dir + 1)
+pub come_past : (dirs : List ℕ) → IsStrictlyIncreasing dirs → (count dir : ℕ) → ComeBefore dirs count dir → count < length dirs
+    → get_or dirs count 0 ≡ dir → ComeBefore dirs (count + 1) (dir + 1)
 come_past dirs up count dir come there here = record {
   within = omega (arith, there);
   before = λ k h. step k h (leb_tells count k);
@@ -67,7 +70,8 @@ pub come_none : (dirs : List ℕ) → ComeBefore dirs 0 0
 come_none dirs = record { within = omega arith; before = λ k h. absurd (omega arith); after = λ k le h. omega arith }
 
 -- the listed directory is to have the list's cell
-pub listed_cell : (dirs : List ℕ) (cell : ℕ) (old : ℕ → ℕ) (place dir : ℕ) → place < length dirs → get_or dirs place 0 ≡ dir → HaveAll dir (dir + 1) cell (λ d. if names dirs d then cell else old d)
+pub listed_cell : (dirs : List ℕ) (cell : ℕ) (old : ℕ → ℕ) (place dir : ℕ) → place < length dirs → get_or dirs place 0 ≡ dir
+    → HaveAll dir (dir + 1) cell (λ d. if names dirs d then cell else old d)
 listed_cell dirs cell old place dir there here d from until =
     let e : d ≡ get_or dirs place 0 = omega (arith, from, until, here) in
     rw (e, named dirs place there) refl

@@ -1,5 +1,6 @@
 -- The border of two neighbouring runs moves by one directory.
-use Rattle.std.proofs.Common.{◌≡◌, ◌≢◌, ℕ, ◌+◌, ◌-◌, ◌*◌, ◌/◌, ◌%◌, ◌<◌, ◌≤◌, ◌==◌, Bool, if◌then◌else◌, List, length, get_or, set, refl, sym, ap, ◌∙◌, arith, subst}
+use Rattle.std.proofs.Common.{◌≡◌, ◌≢◌, ℕ, ◌+◌, ◌-◌, ◌*◌, ◌/◌, ◌%◌, ◌<◌, ◌≤◌, ◌==◌, Bool}
+use Rattle.std.proofs.Common.{if◌then◌else◌, List, length, get_or, set, refl, sym, ap, ◌∙◌, arith, subst}
 use Rattle.std.proofs.lemmas.List.{length-set, get_or-set_same, get_or-set_other}
 use native.Mathlib.Decide.{ℕ_discrete}
 use Rattle.authority_map.specs.Runs.{IsIn, IsIndex, IsMove, AreStarts, AreRuns, HasCells}
@@ -10,7 +11,8 @@ pub one_start : (starts : List ℕ) → AreStarts starts → (i j dir : ℕ) →
 one_start starts order i j dir p q = omega (arith, not_sooner starts order i j dir dir p q (omega arith), not_sooner starts order j i dir dir q p (omega arith))
 
 -- where only one run's start differs, and lies on the other side of the directory, each other directory is in the same run
-same_run : (starts moved : List ℕ) (run dir : ℕ) → length moved ≡ length starts → ((k : ℕ) → k ≢ run → get_or moved k 0 ≡ get_or starts k 0) → get_or starts run 0 + get_or moved run 0 ≡ dir + dir + 1 → dir ≤ get_or starts run 0 → get_or starts run 0 ≤ dir + 1
+same_run : (starts moved : List ℕ) (run dir : ℕ) → length moved ≡ length starts → ((k : ℕ) → k ≢ run → get_or moved k 0 ≡ get_or starts k 0)
+    → get_or starts run 0 + get_or moved run 0 ≡ dir + dir + 1 → dir ≤ get_or starts run 0 → get_or starts run 0 ≤ dir + 1
     → (k d : ℕ) → IsIn starts k d → d ≢ dir → IsIn moved k d
 same_run starts moved run dir sized elsewhere both least most k d p other = record {
   there = omega (arith, sized, p.there);
@@ -63,11 +65,13 @@ module _ (limit : ℕ) (starts : List ℕ) (run start dir : ℕ) (order : AreSta
 
   -- each other directory stays in its run
   stays : (k d : ℕ) → IsIn starts k d → d ≢ dir → IsIn moved k d
-  stays = same_run starts moved run dir sized elsewhere (omega (arith, here run refl, move.both)) (omega (arith, move.both, move.most)) (omega (arith, move.both, move.least))
+  stays = same_run starts moved run dir sized elsewhere (omega (arith, here run refl, move.both)) (omega (arith, move.both, move.most))
+      (omega (arith, move.both, move.least))
 
   -- and was in it
   was : (k d : ℕ) → IsIn moved k d → d ≢ dir → IsIn starts k d
-  was = same_run moved starts run dir (sym sized) (λ k n. sym (elsewhere k n)) (omega (arith, here run refl, move.both)) (omega (arith, here run refl, move.least)) (omega (arith, here run refl, move.most))
+  was = same_run moved starts run dir (sym sized) (λ k n. sym (elsewhere k n)) (omega (arith, here run refl, move.both))
+      (omega (arith, here run refl, move.least)) (omega (arith, here run refl, move.most))
 
   -- the directory's run now
   abbrev pub to : ℕ
@@ -79,23 +83,40 @@ module _ (limit : ℕ) (starts : List ℕ) (run start dir : ℕ) (order : AreSta
       step : Dec (start ≡ dir) → IsIn moved to dir
       step (yes e) =
           let same : run ≡ to = omega (arith, e) in
-          subst (λ (k : ℕ). IsIn moved k dir) same (record { there = omega (arith, sized, move.there); from = omega (arith, here run refl, e); until = λ h. omega (arith, elsewhere (run + 1) (omega arith), move.before (omega (arith, h, sized)), e) })
+          subst (λ (k : ℕ). IsIn moved k dir) same
+          (record {
+            there = omega (arith, sized, move.there);
+            from = omega (arith, here run refl, e);
+            until = λ h. omega (arith, elsewhere (run + 1) (omega arith), move.before (omega (arith, h, sized)), e);
+          })
       step (no n) =
           let one : start ≡ dir + 1 = omega (arith, move.least, move.most, n) in
           let same : run - 1 ≡ to = omega (arith, one) in
-          subst (λ (k : ℕ). IsIn moved k dir) same (record { there = omega (arith, sized, move.there); from = omega (arith, elsewhere (run - 1) (omega (arith, move.some)), move.after, one); until = λ h. omega (arith, here (run - 1 + 1) (omega (arith, move.some)), one) })
+          subst (λ (k : ℕ). IsIn moved k dir) same
+          (record {
+            there = omega (arith, sized, move.there);
+            from = omega (arith, elsewhere (run - 1) (omega (arith, move.some)), move.after, one);
+            until = λ h. omega (arith, here (run - 1 + 1) (omega (arith, move.some)), one);
+          })
 
   pub runs_moved : (cells : List ℕ) → AreRuns limit starts cells → AreRuns limit moved cells
-  runs_moved cells runs = record { order = order_moved; sized = runs.sized ∙ sym sized; below = λ k h. below k (omega (arith, h, sized)) (ℕ_discrete k run); small = runs.small }
+  runs_moved cells runs = record {
+    order = order_moved;
+    sized = runs.sized ∙ sym sized;
+    below = λ k h. below k (omega (arith, h, sized)) (ℕ_discrete k run);
+    small = runs.small;
+  }
     where
       below : (k : ℕ) → k < length starts → Dec (k ≡ run) → get_or moved k 0 < limit
       below k h (yes e) = omega (arith, here k e, move.below)
       below k h (no n) = omega (arith, elsewhere k n, runs.below k h)
 
-  pub cells_moved : (cells : List ℕ) (old : ℕ → ℕ) → HasCells limit starts cells old 0 0 → HasCells limit moved cells (λ d. if d == dir then get_or cells to 0 else old d) 0 0
+  pub cells_moved : (cells : List ℕ) (old : ℕ → ℕ) → HasCells limit starts cells old 0 0
+      → HasCells limit moved cells (λ d. if d == dir then get_or cells to 0 else old d) 0 0
   cells_moved cells old has = record {
     each = λ k d low p. each k d low p (ℕ_discrete d dir);
-    apart = λ k h a b. (let h' : k + 1 < length starts = omega (arith, sized) in has.apart k h' (omega (arith, order.rising k h')) (omega (arith, order.rising k h')));
+    apart = λ k h a b. (let h' : k + 1 < length starts = omega (arith, sized) in
+        has.apart k h' (omega (arith, order.rising k h')) (omega (arith, order.rising k h')));
   }
     where
       each : (k d : ℕ) → d < limit → IsIn moved k d → Dec (d ≡ dir) → get_or cells k 0 ≡ (if d == dir then get_or cells to 0 else old d)
@@ -107,7 +128,10 @@ module _ (limit : ℕ) (starts : List ℕ) (run start dir : ℕ) (order : AreSta
 
   -- an index stays one where the block that begins with the directory has its run now
   pub index_set : (index : List ℕ) → IsIndex limit starts index → dir % 256 ≡ 0 → IsIndex limit moved (set index (dir / 256) to)
-  index_set index tells begins = record { sized = length-set index (dir / 256) to ∙ tells.sized; each = λ b h. each b (omega (arith, h, length-set index (dir / 256) to)) (ℕ_discrete b (dir / 256)) }
+  index_set index tells begins = record {
+    sized = length-set index (dir / 256) to ∙ tells.sized;
+    each = λ b h. each b (omega (arith, h, length-set index (dir / 256) to)) (ℕ_discrete b (dir / 256));
+  }
     where
       within : dir / 256 < length index
       within = omega (arith, tells.sized, move.least, move.below)
@@ -115,7 +139,8 @@ module _ (limit : ℕ) (starts : List ℕ) (run start dir : ℕ) (order : AreSta
       each : (b : ℕ) → b < length index → Dec (b ≡ dir / 256) → IsIn moved (get_or (set index (dir / 256) to) b 0) (256 * b)
       each b h (yes e) =
           let this : dir ≡ 256 * b = omega (arith, e, begins) in
-          let told : to ≡ get_or (set index (dir / 256) to) b 0 = sym (ap (λ (k : ℕ). get_or (set index (dir / 256) to) k 0) e ∙ get_or-set_same index (dir / 256) to 0 within) in
+          let told : to ≡ get_or (set index (dir / 256) to) b 0 =
+          sym (ap (λ (k : ℕ). get_or (set index (dir / 256) to) k 0) e ∙ get_or-set_same index (dir / 256) to 0 within) in
           subst (λ (d : ℕ). IsIn moved (get_or (set index (dir / 256) to) b 0) d) this (subst (λ (j : ℕ). IsIn moved j dir) told goes)
       each b h (no n) =
           let old = get_or index b 0 in
@@ -124,10 +149,14 @@ module _ (limit : ℕ) (starts : List ℕ) (run start dir : ℕ) (order : AreSta
 
   -- and where no block begins with it
   pub index_kept : (index : List ℕ) → IsIndex limit starts index → dir % 256 ≢ 0 → IsIndex limit moved index
-  index_kept index tells within = record { sized = tells.sized; each = λ b h. stays (get_or index b 0) (256 * b) (tells.each b h) (λ e. within (omega (arith, e))) }
+  index_kept index tells within = record {
+    sized = tells.sized;
+    each = λ b h. stays (get_or index b 0) (256 * b) (tells.each b h) (λ e. within (omega (arith, e)));
+  }
 
 -- the first directory of a run, which has another, goes to the run before
-pub move_on : (limit : ℕ) (starts : List ℕ) (run dir : ℕ) → AreStarts starts → 1 ≤ run → get_or starts run 0 ≡ dir → IsIn starts run (dir + 1) → dir + 1 < limit → IsMove limit starts run (dir + 1) dir
+pub move_on : (limit : ℕ) (starts : List ℕ) (run dir : ℕ) → AreStarts starts → 1 ≤ run → get_or starts run 0 ≡ dir
+    → IsIn starts run (dir + 1) → dir + 1 < limit → IsMove limit starts run (dir + 1) dir
 move_on limit starts run dir order some first next below = record {
   some = some;
   there = next.there;

@@ -7,7 +7,8 @@ use lib.Dec.{leb}
 use Rattle.authority_map.specs.Runs.{IsIn, IsIndex, IsOneMore, AreRuns, HasCells}
 use Rattle.authority_map.proofs.RunLemmas.{rises_to}
 
-module _ (limit : ℕ) (starts cells : List ℕ) (run : ℕ) (runs : AreRuns limit starts cells) (some : 1 ≤ run) (there : run < length starts) (alike : get_or cells (run - 1) 0 ≡ get_or cells run 0) where
+module _ (limit : ℕ) (starts cells : List ℕ) (run : ℕ) (runs : AreRuns limit starts cells) (some : 1 ≤ run) (there : run < length starts)
+    (alike : get_or cells (run - 1) 0 ≡ get_or cells run 0) where
   abbrev fewer : List ℕ
   fewer = remove starts run
 
@@ -62,8 +63,18 @@ module _ (limit : ℕ) (starts cells : List ℕ) (run : ℕ) (runs : AreRuns lim
     where
       rising : (k : ℕ) → k + 1 < length fewer → Dec (k + 1 ≡ run) → Order k → get_or fewer k 0 < get_or fewer (k + 1) 0
       rising k h (yes e) o = omega (arith, start_before k (omega (arith, e)), at_after k e, before_here k e, runs.order.rising run (omega (arith, shorter, e)))
-      rising k h (no n) (inl le) = omega (arith, start_after k le.1, start_after (k + 1) (omega (arith, le.1)), runs.order.rising (k + 1) (omega (arith, shorter)))
-      rising k h (no n) (inr less) = omega (arith, start_before k less.1, start_before (k + 1) (omega (arith, less.1, n)), runs.order.rising k (omega (arith, shorter)))
+      rising k h (no n) (inl le) = omega (
+        arith,
+        start_after k le.1,
+        start_after (k + 1) (omega (arith, le.1)),
+        runs.order.rising (k + 1) (omega (arith, shorter)),
+      )
+      rising k h (no n) (inr less) = omega (
+        arith,
+        start_before k less.1,
+        start_before (k + 1) (omega (arith, less.1, n)),
+        runs.order.rising k (omega (arith, shorter)),
+      )
 
       low : (k : ℕ) → k < length fewer → Order k → get_or fewer k 0 < limit
       low k h (inl le) = omega (arith, start_after k le.1, runs.below (k + 1) (omega (arith, shorter)))
@@ -79,7 +90,9 @@ module _ (limit : ℕ) (starts cells : List ℕ) (run : ℕ) (runs : AreRuns lim
     held : IsIn starts old d
     cell : get_or left k 0 ≡ get_or cells old 0
 
-  had : (k d : ℕ) → IsIn fewer k d → Dec (k + 1 ≡ run) → Order k → ((leb (get_or starts run 0) d ≡ true) × (get_or starts run 0 ≤ d)) ⊎ ((leb (get_or starts run 0) d ≡ false) × (d < get_or starts run 0)) → Had k d
+  had : (k d : ℕ) → IsIn fewer k d → Dec (k + 1 ≡ run) → Order k
+      → ((leb (get_or starts run 0) d ≡ true) × (get_or starts run 0 ≤ d))
+      ⊎ ((leb (get_or starts run 0) d ≡ false) × (d < get_or starts run 0)) → Had k d
   had k d p (yes e) o (inl le) = record {
     old = run;
     held = record { there = there; from = le.1; until = λ h. omega (arith, p.until (omega (arith, shorter, e)), at_after k e) };
@@ -87,38 +100,54 @@ module _ (limit : ℕ) (starts cells : List ℕ) (run : ℕ) (runs : AreRuns lim
   }
   had k d p (yes e) o (inr less) = record {
     old = k;
-    held = record { there = omega (arith, there, e); from = omega (arith, p.from, start_before k (omega (arith, e))); until = λ h. omega (arith, less.1, ap (λ (j : ℕ). get_or starts j 0) e) };
+    held = record {
+      there = omega (arith, there, e);
+      from = omega (arith, p.from, start_before k (omega (arith, e)));
+      until = λ h. omega (arith, less.1, ap (λ (j : ℕ). get_or starts j 0) e);
+    };
     cell = cell_before k (omega (arith, e));
   }
   had k d p (no n) (inl le) o = record {
     old = k + 1;
-    held = record { there = omega (arith, p.there, shorter); from = omega (arith, p.from, start_after k le.1); until = λ h. omega (arith, p.until (omega (arith, shorter)), start_after (k + 1) (omega (arith, le.1))) };
+    held = record {
+      there = omega (arith, p.there, shorter);
+      from = omega (arith, p.from, start_after k le.1);
+      until = λ h. omega (arith, p.until (omega (arith, shorter)), start_after (k + 1) (omega (arith, le.1)));
+    };
     cell = cell_after k le.1;
   }
   had k d p (no n) (inr less) o = record {
     old = k;
-    held = record { there = omega (arith, there, less.1); from = omega (arith, p.from, start_before k less.1); until = λ h. omega (arith, p.until (omega (arith, shorter, less.1, n, there)), start_before (k + 1) (omega (arith, less.1, n))) };
+    held = record {
+      there = omega (arith, there, less.1);
+      from = omega (arith, p.from, start_before k less.1);
+      until = λ h. omega (arith, p.until (omega (arith, shorter, less.1, n, there)), start_before (k + 1) (omega (arith, less.1, n)));
+    };
     cell = cell_before k less.1;
   }
 
   pub cells_united : (cell : ℕ → ℕ) (this : ℕ) → HasCells limit starts cells cell this (get_or starts run 0) → HasCells limit fewer left cell this this
   cells_united cell this has = record {
-    each = λ k d low p. (let w = had k d p (ℕ_discrete (k + 1) run) (leb_tells run k) (leb_tells (get_or starts run 0) d) in w.cell ∙ has.each w.old d low w.held);
+    each = λ k d low p. (let w = had k d p (ℕ_discrete (k + 1) run) (leb_tells run k) (leb_tells (get_or starts run 0) d) in
+        w.cell ∙ has.each w.old d low w.held);
     apart = λ k h a b. apart k h a (ℕ_discrete (k + 1) run) (leb_tells run k);
   }
     where
       apart : (k : ℕ) → k + 1 < length fewer → get_or fewer (k + 1) 0 ≢ this → Dec (k + 1 ≡ run) → Order k → get_or left k 0 ≢ get_or left (k + 1) 0
       apart k h a (yes e) o =
           let next : run + 1 < length starts = omega (arith, shorter, e) in
-          λ same. has.apart run next (λ s. a (at_after k e ∙ s)) (λ s. absurd (omega (arith, runs.order.rising run next, s))) (sym (cell_same k e) ∙ sym (cell_before k (omega (arith, e))) ∙ same ∙ cell_at_after k e)
+          λ same. has.apart run next (λ s. a (at_after k e ∙ s)) (λ s. absurd (omega (arith, runs.order.rising run next, s)))
+          (sym (cell_same k e) ∙ sym (cell_before k (omega (arith, e))) ∙ same ∙ cell_at_after k e)
       apart k h a (no n) (inl le) =
           let next : k + 1 + 1 < length starts = omega (arith, shorter) in
           let later : get_or starts run 0 < get_or starts (k + 1 + 1) 0 = rises_to starts runs.order run (k + 1 + 1) (omega (arith, le.1)) next in
-          λ same. has.apart (k + 1) next (λ s. a (start_after (k + 1) (omega (arith, le.1)) ∙ s)) (λ s. absurd (omega (arith, later, s))) (sym (cell_after k le.1) ∙ same ∙ cell_after (k + 1) (omega (arith, le.1)))
+          λ same. has.apart (k + 1) next (λ s. a (start_after (k + 1) (omega (arith, le.1)) ∙ s)) (λ s. absurd (omega (arith, later, s)))
+          (sym (cell_after k le.1) ∙ same ∙ cell_after (k + 1) (omega (arith, le.1)))
       apart k h a (no n) (inr less) =
           let before : k + 1 < run = omega (arith, less.1, n) in
           let sooner : get_or starts (k + 1) 0 < get_or starts run 0 = rises_to starts runs.order (k + 1) run before there in
-          λ same. has.apart k (omega (arith, there, before)) (λ s. a (start_before (k + 1) before ∙ s)) (λ s. absurd (omega (arith, sooner, s))) (sym (cell_before k less.1) ∙ same ∙ cell_before (k + 1) before)
+          λ same. has.apart k (omega (arith, there, before)) (λ s. a (start_before (k + 1) before ∙ s))
+          (λ s. absurd (omega (arith, sooner, s))) (sym (cell_before k less.1) ∙ same ∙ cell_before (k + 1) before)
 
   -- a directory before the run that goes stays in its run
   stays : (k d : ℕ) → IsIn starts k d → d < get_or starts run 0 → Dec (k + 1 ≡ run) → Order k → IsIn fewer k d
@@ -166,16 +195,21 @@ module _ (limit : ℕ) (starts cells : List ℕ) (run : ℕ) (runs : AreRuns lim
       }
 
   -- the run of a block that starts at the run that goes or after it isn't the first
-  pub index_some : (index : List ℕ) (first : ℕ) → first ≡ (get_or starts run 0 + 255) / 256 → IsIndex limit starts index → (b : ℕ) → first ≤ b → b < length index → 1 ≤ get_or index b 0
+  pub index_some : (index : List ℕ) (first : ℕ) → first ≡ (get_or starts run 0 + 255) / 256 → IsIndex limit starts index → (b : ℕ)
+      → first ≤ b → b < length index → 1 ≤ get_or index b 0
   index_some index first at was b le h = let past = not_before (get_or index b 0) (256 * b) (was.each b h) (omega (arith, le, at)) in omega (arith, past, some)
 
-  pub index_united : (index new : List ℕ) (first : ℕ) → first ≡ (get_or starts run 0 + 255) / 256 → IsIndex limit starts index → IsOneMore first new index → IsIndex limit fewer new
+  pub index_united : (index new : List ℕ) (first : ℕ) → first ≡ (get_or starts run 0 + 255) / 256 → IsIndex limit starts index
+      → IsOneMore first new index → IsIndex limit fewer new
   index_united index new first at was operation = record { sized = sym operation.sized ∙ was.sized; each = λ b h. each b h (leb_tells first b) }
     where
       each : (b : ℕ) → b < length new → ((leb first b ≡ true) × (first ≤ b)) ⊎ ((leb first b ≡ false) × (b < first)) → IsIn fewer (get_or new b 0) (256 * b)
       each b h (inl le) =
-          let here : IsIn starts (get_or new b 0 + 1) (256 * b) = subst (λ (j : ℕ). IsIn starts j (256 * b)) (operation.after b le.1 h) (was.each b (omega (arith, h, operation.sized))) in
+          let here : IsIn starts (get_or new b 0 + 1) (256 * b) =
+          subst (λ (j : ℕ). IsIn starts j (256 * b)) (operation.after b le.1 h) (was.each b (omega (arith, h, operation.sized))) in
           moves (get_or new b 0) (256 * b) here (omega (arith, le.1, at)) (ℕ_discrete (get_or new b 0 + 1) run)
       each b h (inr less) =
           let old = get_or index b 0 in
-          subst (λ (j : ℕ). IsIn fewer j (256 * b)) (operation.before b less.1) (stays old (256 * b) (was.each b (omega (arith, h, operation.sized))) (omega (arith, less.1, at)) (ℕ_discrete (old + 1) run) (leb_tells run old))
+          subst (λ (j : ℕ). IsIn fewer j (256 * b)) (operation.before b less.1)
+          (stays old (256 * b) (was.each b (omega (arith, h, operation.sized))) (omega (arith, less.1, at)) (ℕ_discrete (old + 1) run)
+          (leb_tells run old))

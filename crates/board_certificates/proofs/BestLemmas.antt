@@ -50,7 +50,8 @@ best_now None last plan h best = absurd best
 best_now (Some o) None plan h best = absurd (cc)
 best_now (Some o) (Some p) plan h best =
     let same : o.problem ≡ p.problem = cc in
-    All-cons HasBest (record { problem = p.problem; names = Some p.names; plan = plan }) [] (subst (λ (q : ProblemData). IsBest q plan × IsCertified q plan) same best) (All-nil HasBest)
+    All-cons HasBest (record { problem = p.problem; names = Some p.names; plan = plan }) []
+    (subst (λ (q : ProblemData). IsBest q plan × IsCertified q plan) same best) (All-nil HasBest)
 
 best_adopted : (s : State) (last : Option PosedData) (c : Change) → Agrees s.opened last → IsAllowed s c → All HasBest (certified_by last c)
 best_adopted s None (Adopt plan) h best = best_now s.opened None plan h best
@@ -66,7 +67,8 @@ best_adopted s (Some p) Tick h best = All-nil HasBest
 best_adopted s (Some p) (Step e) h best = All-nil HasBest
 best_adopted s (Some p) Open h best = All-nil HasBest
 
-pub all_best : (s : State) (last : Option PosedData) (history : List Entry) (t : State) → Agrees s.opened last → IsReplay s history t → All HasBest (certificates s last history)
+pub all_best : (s : State) (last : Option PosedData) (history : List Entry) (t : State) → Agrees s.opened last → IsReplay s history t
+    → All HasBest (certificates s last history)
 all_best s last [] t h r = All-nil HasBest
 all_best s last (e ∷ es) t h r =
     All-append HasBest (certified_by last e.change) _ (best_adopted s last e.change h r.1)

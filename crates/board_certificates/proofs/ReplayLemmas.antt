@@ -1,5 +1,7 @@
 -- What a replay of a history has after each change.
-use Rattle.std.proofs.Common.{◌≡◌, ◌∙◌, ℕ, zero, suc, ◌≤◌, not, ◌+◌, ◌<◌, All, take, add-one, Bool, true, false, cond, List, [], ◌∷◌, ◌++◌, length, map, get_or, set, refl, sym, ap, subst, arith, inl, inr, Option, Some, None, Result, Ok, Err, OnOk, length-append}
+use Rattle.std.proofs.Common.{◌≡◌, ◌∙◌, ℕ, zero, suc, ◌≤◌, not, ◌+◌, ◌<◌, All, take, add-one, Bool}
+use Rattle.std.proofs.Common.{true, false, cond, List, [], ◌∷◌, ◌++◌, length, map, get_or, set, refl, sym}
+use Rattle.std.proofs.Common.{ap, subst, arith, inl, inr, Option, Some, None, Result, Ok, Err, OnOk, length-append}
 use Rattle.std.specs.Option.{option_map_or}
 use Rattle.std.specs.Prelude.{◌==◌, is_some, is_none, codes, filter, ℤ, pos, negsuc}
 use Rattle.std.proofs.Math.ListN.{get_or-append}
@@ -86,7 +88,9 @@ root_named : (d : ℕ) → is_there (Some root ∷ []) d ≡ true → get_or (co
 root_named zero there = refl
 root_named (suc d) there = absurd (false≢true there)
 
-pub begun : (limit active ranks : ℕ) (r : Replay) → active ≤ ranks → ranks ≤ 64 → r.tree ≡ record { limit = limit; entries = Some root ∷ [] } → r.pins ≡ no_pins limit ranks → made_names r ≡ codes "/" ∷ [] → IsReplayed (start limit active) r
+pub begun : (limit active ranks : ℕ) (r : Replay) → active ≤ ranks → ranks ≤ 64
+    → r.tree ≡ record { limit = limit; entries = Some root ∷ [] } → r.pins ≡ no_pins limit ranks → made_names r ≡ codes "/" ∷ []
+    → IsReplayed (start limit active) r
 begun limit active ranks r enough few tree pins names = record {
   directories = tree;
   pins = ap (λ (t : PinTable). t.own) pins;
@@ -108,7 +112,8 @@ module _ (s : State) (r now : Replay) (parent inodes : ℕ) (name : List ℕ) (h
       elim (places s.directories.entries (Some e) d) [
         | inl old ↦
             let was : is_there s.directories.entries d ≡ true = sym (ap is_some old.1) ∙ there in
-            first ∙ (get_or-append (made_names r) (name ∷ []) [] d (omega (arith, old.0, h.numbered)) ∙ (h.named d was ∙ sym (same_name s.directories.entries _ d old.1)))
+            first ∙ (get_or-append (made_names r) (name ∷ []) [] d (omega (arith, old.0, h.numbered))
+            ∙ (h.named d was ∙ sym (same_name s.directories.entries _ d old.1)))
         | inr new ↦ elim new [
           | inl last ↦
               first
@@ -118,7 +123,8 @@ module _ (s : State) (r now : Replay) (parent inodes : ℕ) (name : List ℕ) (h
         ]
       ]
 
-  pub made : now.tree ≡ with_child r.tree parent name inodes → now.pins ≡ r.pins → made_names now ≡ made_names r ++ name ∷ [] → IsReplayed (next s (Make parent name inodes)) now
+  pub made : now.tree ≡ with_child r.tree parent name inodes → now.pins ≡ r.pins → made_names now ≡ made_names r ++ name ∷ []
+      → IsReplayed (next s (Make parent name inodes)) now
   unfolding happens
   made tree pins names = record {
     directories = tree ∙ ap (λ (t : Directories). with_child t parent name inodes) h.directories;
@@ -127,7 +133,12 @@ module _ (s : State) (r now : Replay) (parent inodes : ℕ) (name : List ℕ) (h
     few = subst (λ (t : PinTable). t.active ≤ 64) (sym pins) h.few;
     room = h.room;
     rooted = omega (arith, length-append s.directories.entries (Some (record { parent = parent; name = name; inodes = inodes }) ∷ []), h.rooted);
-    numbered = ap length names ∙ omega (arith, length-append (made_names r) (name ∷ []), length-append s.directories.entries (Some (record { parent = parent; name = name; inodes = inodes }) ∷ []), h.numbered);
+    numbered = ap length names ∙ omega (
+      arith,
+      length-append (made_names r) (name ∷ []),
+      length-append s.directories.entries (Some (record { parent = parent; name = name; inodes = inodes }) ∷ []),
+      h.numbered,
+    );
     named = made_name names;
   }
 
@@ -152,7 +163,8 @@ removed s r d h = record {
 }
 
 -- a directory is pinned
-pub pinned : (s : State) (r : Replay) (d : ℕ) (value : ℤ) → IsReplayed s r → IsReplayed (next s (change.Pin d value)) (record r { pins = with_pin r.pins d value })
+pub pinned : (s : State) (r : Replay) (d : ℕ) (value : ℤ) → IsReplayed s r
+    → IsReplayed (next s (change.Pin d value)) (record r { pins = with_pin r.pins d value })
 unfolding happens
 pinned s r d value h = record {
   directories = h.directories;
@@ -192,15 +204,18 @@ wider_pin few many (pos rank) h is = grind (arith, nat_tests)
 wider_pin few many (negsuc zero) h is = refl
 wider_pin few many (negsuc (suc n)) h is = is
 
-wider_free : (there few many : Bool) → (few ≡ true → many ≡ true) → cond (not there) (Some NoDir) (cond (not few) (Some NoRank) None) ≡ None → cond (not there) (Some NoDir) (cond (not many) (Some NoRank) None) ≡ None
+wider_free : (there few many : Bool) → (few ≡ true → many ≡ true) → cond (not there) (Some NoDir) (cond (not few) (Some NoRank) None) ≡ None
+    → cond (not there) (Some NoDir) (cond (not many) (Some NoRank) None) ≡ None
 wider_free false few many h free = free
 wider_free true true many h free = ap (λ (b : Bool). cond (not b) (Some NoRank) None) (h refl)
 wider_free true false many h free = absurd (cc)
 
-pub pinnable : (s : State) (r : Replay) (d : ℕ) (value : ℤ) → IsReplayed s r → refusal s (change.Pin d value) ≡ None → pin_refusal r.pins.active r.tree.entries d value ≡ None
+pub pinnable : (s : State) (r : Replay) (d : ℕ) (value : ℤ) → IsReplayed s r → refusal s (change.Pin d value) ≡ None
+    → pin_refusal r.pins.active r.tree.entries d value ≡ None
 unfolding refusal
 pinnable s r d value h free =
-    rw h.directories (wider_free (is_there s.directories.entries d) (is_pin s.pins.active value) (is_pin r.pins.active value) (wider_pin s.pins.active r.pins.active value h.ranks)
+    rw h.directories (wider_free (is_there s.directories.entries d) (is_pin s.pins.active value) (is_pin r.pins.active value)
+    (wider_pin s.pins.active r.pins.active value h.ranks)
     (of_pin_none (pin_refusal s.pins.active s.directories.entries d value) (second_none _ _ free)))
 
 -- each row of a problem that is opened has a name
@@ -214,7 +229,9 @@ sized s (change.Weights read write) last reply is h = rw is h
 sized s (Deposit hits) last reply is h = rw is h
 sized s Tick last reply is h = rw is h
 sized s (Step e) last reply is h = rw is h
-sized s Open last reply is h = rw is (length-map (dirs_of s) (row_name s.directories.entries) ∙ sym (length-map (dirs_of s) (row_of s.directories.entries s.heats.heats (authorities s) (dirs_of s))))
+sized s Open last reply is h =
+    rw is (length-map (dirs_of s) (row_name s.directories.entries)
+    ∙ sym (length-map (dirs_of s) (row_of s.directories.entries s.heats.heats (authorities s) (dirs_of s))))
 sized s (Adopt plan) last reply is h = rw is h
 
 -- what a replay has of a directory that is there
@@ -248,24 +265,29 @@ pub roomy : (s : State) (r : Replay) → IsReplayed s r → r.tree.limit ≤ len
 roomy s r h = omega (arith, h.room, ap length h.pins, ap (λ (t : Directories). t.limit) h.directories)
 
 -- each directory that no pin holds is there
-pub free_there : (es : List (Option Entry)) (own : List (Option ℕ)) (i d : ℕ) → i < length (unpinned es own) → d ≡ get_or (unpinned es own) i d → is_there es d ≡ true
+pub free_there : (es : List (Option Entry)) (own : List (Option ℕ)) (i d : ℕ) → i < length (unpinned es own)
+    → d ≡ get_or (unpinned es own) i d → is_there es d ≡ true
 free_there es own i d near at =
     let all : All (λ d. is_there es d ≡ true) (unpinned es own) = all_free (below (length es)) in
     ap (is_there es) at ∙ All-get_or (λ (d : ℕ). is_there es d ≡ true) (unpinned es own) i d near all
   where
     all_free : (ds : List ℕ) → All (λ d. is_there es d ≡ true) (filter (is_unpinned es own) ds)
     all_free [] = All-nil (λ (d : ℕ). is_there es d ≡ true)
-    all_free (d ∷ ds) = elim (is_unpinned es own d) as (λ b. is_unpinned es own d ≡ b → All (λ d. is_there es d ≡ true) (cond b (d ∷ filter (is_unpinned es own) ds) (filter (is_unpinned es own) ds))) [
-      | true ↦ λ e. All-cons (λ (d : ℕ). is_there es d ≡ true) d (filter (is_unpinned es own) ds) (and_parts (is_there es d) (is_none (nearest_pin es own d)) e).0 (all_free ds)
-      | false ↦ λ e. all_free ds
-    ] refl
+    all_free (d ∷ ds) = elim (is_unpinned es own d) as
+        (λ b. is_unpinned es own d ≡ b → All (λ d. is_there es d ≡ true)
+        (cond b (d ∷ filter (is_unpinned es own) ds) (filter (is_unpinned es own) ds))) [
+          | true ↦ λ e. All-cons (λ (d : ℕ). is_there es d ≡ true) d (filter (is_unpinned es own) ds)
+              (and_parts (is_there es d) (is_none (nearest_pin es own d)) e).0 (all_free ds)
+          | false ↦ λ e. all_free ds
+        ] refl
 
 pub on_ok_three : {A E P Q R S : Type 0} (r : Result A E) → (P → Q → R → S) → OnOk r P → OnOk r Q → OnOk r R → OnOk r S
 on_ok_three (Ok a) f p q r = f p q r
 on_ok_three (Err e) f p q r = tt
 
 -- a change that is none of these
-pub none_of : (c : Change) → ((parent : ℕ) (name : List ℕ) (inodes : ℕ) → c ≡ Make parent name inodes → ⊥) → ((d : ℕ) → c ≡ Remove d → ⊥) → ((d : ℕ) (value : ℤ) → c ≡ change.Pin d value → ⊥) → IsElsewhere c
+pub none_of : (c : Change) → ((parent : ℕ) (name : List ℕ) (inodes : ℕ) → c ≡ Make parent name inodes → ⊥) → ((d : ℕ) → c ≡ Remove d → ⊥)
+    → ((d : ℕ) (value : ℤ) → c ≡ change.Pin d value → ⊥) → IsElsewhere c
 none_of (Make parent name inodes) m r p = m parent name inodes refl
 none_of (Remove d) m r p = r d refl
 none_of (change.Pin d value) m r p = p d value refl
@@ -289,7 +311,8 @@ same_value active (negsuc (suc n)) few is = absurd (false≢true is)
 
 -- the value of a pin that is allowed is a number of 32 bits
 pub value_same : (s : State) (r : Replay) (d : ℕ) (value : ℤ) → IsReplayed s r → refusal s (change.Pin d value) ≡ None → to_z w32 (of_z w32 value) ≡ value
-value_same s r d value h free = same_value r.pins.active value h.few (pin_of_free (is_there r.tree.entries d) (is_pin r.pins.active value) (pinnable s r d value h free))
+value_same s r d value h free = same_value r.pins.active value h.few
+    (pin_of_free (is_there r.tree.entries d) (is_pin r.pins.active value) (pinnable s r d value h free))
 
 -- one more name
 pub map_next : {A B : Type 0} (f : A → B) (xs : List A) (i : ℕ) (d : A) → i < length xs → map f (take (i + 1) xs) ≡ map f (take i xs) ++ f (get_or xs i d) ∷ []
@@ -306,7 +329,8 @@ request_elsewhere (shown.Began rank dir ticket) other = tt
 request_elsewhere (shown.Ended ticket) other = tt
 request_elsewhere (shown.Other e) other = absurd (other e refl)
 
-pub request_opens_nothing : (s : State) (last : Option PosedData) (k : Shown) → ((e : Bor history.Entry) → k ≡ shown.Other e → ⊥) → last ≡ opened s last (shown_entry k).reply
+pub request_opens_nothing : (s : State) (last : Option PosedData) (k : Shown) → ((e : Bor history.Entry) → k ≡ shown.Other e → ⊥)
+    → last ≡ opened s last (shown_entry k).reply
 request_opens_nothing s last (shown.Began rank dir ticket) other = refl
 request_opens_nothing s last (shown.Ended ticket) other = refl
 request_opens_nothing s last (shown.Other e) other = absurd (other e refl)

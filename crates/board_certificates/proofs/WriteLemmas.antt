@@ -1,5 +1,6 @@
 -- Certificates that are written one after another.
-use Rattle.std.proofs.Common.{◌≡◌, ◌∙◌, ℕ, ◌+◌, ◌<◌, ◌≤◌, List, [], ◌∷◌, ◌++◌, All, Option, Some, length, drop, get_or, None, refl, sym, ap, append_assoc, append-nil, subst}
+use Rattle.std.proofs.Common.{◌≡◌, ◌∙◌, ℕ, ◌+◌, ◌<◌, ◌≤◌, List, [], ◌∷◌, ◌++◌, All, Option}
+use Rattle.std.proofs.Common.{Some, length, drop, get_or, None, refl, sym, ap, append_assoc, append-nil, subst}
 use Rattle.std.proofs.KnownBytes.{Appends-nil, Appends-trans}
 use Rattle.std.proofs.lemmas.List.{drop_all, drop_more}
 use Rattle.std.proofs.lemmas.List.Concat.{flat_map-append}
@@ -69,7 +70,8 @@ partly_front : (first now : Option (List ℕ)) (all rest : List ℕ) → IsPartl
 partly_front first now all rest h = (h.written, rest, h.parted, h.appended)
 
 -- how far the writer is: before the entry of this number
-pub record IsAt (entries : List Entry) (i : ℕ) (cs : List Certificate) (all : List ℕ) (first now : Option (List ℕ)) (r : Replay) (last : Option PosedData) : Type 0 where
+pub record IsAt (entries : List Entry) (i : ℕ) (cs : List Certificate) (all : List ℕ) (first now : Option (List ℕ)) (r : Replay)
+    (last : Option PosedData) : Type 0 where
   pub state : State
   pub replayed : IsReplayed state r
   pub sized : IsSized last
@@ -77,7 +79,9 @@ pub record IsAt (entries : List Entry) (i : ℕ) (cs : List Certificate) (all : 
   pub partly : IsPartly first now all (texts (certificates state last (drop i entries)))
   pub writable : All IsWritable (certificates state last (drop i entries)) → All IsWritable cs
 
-module _ (entries : List Entry) (i : ℕ) (cs : List Certificate) (all : List ℕ) (first mid : Option (List ℕ)) (r : Replay) (last : Option PosedData) (e : Entry) (inside : i < length entries) (item : get_or entries i e ≡ e) (at : IsAt entries i cs all first mid r last) where
+module _ (entries : List Entry) (i : ℕ) (cs : List Certificate) (all : List ℕ) (first mid : Option (List ℕ)) (r : Replay)
+    (last : Option PosedData) (e : Entry) (inside : i < length entries) (item : get_or entries i e ≡ e)
+    (at : IsAt entries i cs all first mid r last) where
   entry_next : drop i entries ≡ e ∷ drop (i + 1) entries
   entry_next = drop_more entries i e inside ∙ ap (λ (f : Entry). f ∷ drop (i + 1) entries) item
 
@@ -97,7 +101,9 @@ module _ (entries : List Entry) (i : ℕ) (cs : List Certificate) (all : List �
   pub written_at : (now : Option (List ℕ)) → Appends mid now (texts (certified_by last e.change)) → AppendsFront first now all
   written_at now one = partly_front first now all _ (more at.state first mid now all last e (drop (i + 1) entries) partly_at one)
 
-  pub at_next : (now : Option (List ℕ)) (after : Replay) (posed : Option PosedData) → Appends mid now (texts (certified_by last e.change)) → All IsWritable (certified_by last e.change) → posed ≡ opened at.state last e.reply → IsReplayed (next at.state e.change) after → IsAt entries (i + 1) cs all first now after posed
+  pub at_next : (now : Option (List ℕ)) (after : Replay) (posed : Option PosedData) → Appends mid now (texts (certified_by last e.change))
+      → All IsWritable (certified_by last e.change) → posed ≡ opened at.state last e.reply → IsReplayed (next at.state e.change) after
+      → IsAt entries (i + 1) cs all first now after posed
   at_next now after posed one fits is replayed = rw is (record {
     state = next at.state e.change;
     replayed = replayed;
@@ -106,23 +112,24 @@ module _ (entries : List Entry) (i : ℕ) (cs : List Certificate) (all : List �
     partly = more at.state first mid now all last e (drop (i + 1) entries) partly_at one;
     writable = λ rest.
         at.writable (subst (λ (es : List Entry). All IsWritable (certificates at.state last es)) (sym entry_next)
-        (All-append IsWritable (certified_by last e.change) (certificates (next at.state e.change) (opened at.state last e.reply) (drop (i + 1) entries)) fits rest));
+        (All-append IsWritable (certified_by last e.change)
+        (certificates (next at.state e.change) (opened at.state last e.reply) (drop (i + 1) entries)) fits rest));
   })
 
 -- all is written
-pub all_writable : (entries : List Entry) (i : ℕ) (cs : List Certificate) (all : List ℕ) (first now : Option (List ℕ)) (r : Replay) (last : Option PosedData) → length entries ≤ i → IsAt entries i cs all first now r last → All IsWritable cs
+pub all_writable : (entries : List Entry) (i : ℕ) (cs : List Certificate) (all : List ℕ) (first now : Option (List ℕ)) (r : Replay)
+    (last : Option PosedData) → length entries ≤ i → IsAt entries i cs all first now r last → All IsWritable cs
 all_writable entries i cs all first now r last past at =
     at.writable (subst (λ (es : List Entry). All IsWritable (certificates at.state last es)) (sym (drop_all i entries past)) (All-nil IsWritable))
 
-pub done : (entries : List Entry) (i : ℕ) (cs : List Certificate) (all : List ℕ) (first now : Option (List ℕ)) (r : Replay) (last : Option PosedData) → length entries ≤ i → IsAt entries i cs all first now r last → Appends first now all
+pub done : (entries : List Entry) (i : ℕ) (cs : List Certificate) (all : List ℕ) (first now : Option (List ℕ)) (r : Replay)
+    (last : Option PosedData) → length entries ≤ i → IsAt entries i cs all first now r last → Appends first now all
 done entries i cs all first now r last past at =
     let before = at.partly in
     subst (λ (t : List ℕ). Appends first now t)
-    (sym (before.parted ∙ (ap (λ (es : List Entry). before.written ++ texts (certificates at.state last es)) (drop_all i entries past) ∙ append-nil before.written)))
+    (sym (before.parted ∙ (ap (λ (es : List Entry). before.written ++ texts (certificates at.state last es)) (drop_all i entries past)
+    ∙ append-nil before.written)))
     before.appended
-
-pub nothing_front : (first : Option (List ℕ)) (all : List ℕ) → AppendsFront first first all
-nothing_front first all = ([], all, refl, Appends-nil first)
 
 -- the problem that was opened last, as it is lent
 pub lent : (x : Option (Bor Posed)) (last : Option Posed) → option_map (λ p. p.now) x ≡ last → option_map (λ p. posed_of p.now) x ≡ option_map posed_of last

@@ -66,7 +66,8 @@ module _ (told : List ℕ) where
       none value (subst (λ (t : List ℕ). IsPinOf t value) same pin)
 
   none_any : ((rest : List ℕ) → told ≡ codes "ceph.dir.entries=\"" ++ rest → ⊥) → ((rest : List ℕ) → told ≡ codes "ceph.dir.pin.distributed=\"" ++ rest → ⊥)
-      → ((rest : List ℕ) → told ≡ codes "ceph.dir.pin.random=\"" ++ rest → ⊥) → ((rest : List ℕ) → told ≡ codes "ceph.dir.pin=\"" ++ rest → ⊥) → IsAnyTold told → ⊥
+      → ((rest : List ℕ) → told ≡ codes "ceph.dir.pin.random=\"" ++ rest → ⊥)
+      → ((rest : List ℕ) → told ≡ codes "ceph.dir.pin=\"" ++ rest → ⊥) → IsAnyTold told → ⊥
   none_any entries distributed random pin (other, inl (two, number)) = entries other two
   none_any entries distributed random pin (other, inr (inl (inl two, share))) = distributed other two
   none_any entries distributed random pin (other, inr (inl (inr two, share))) = random other two
@@ -74,7 +75,8 @@ module _ (told : List ℕ) where
 
 -- so a line of no known attribute has no value, and one of a pin has the pin that the number says
 module _ (line told : List ℕ) (parts : line ≡ told ++ codes "\"") where
-  pub no_attribute : ((rest : List ℕ) → told ≡ codes "ceph.dir.entries=\"" ++ rest → ⊥) → ((rest : List ℕ) → told ≡ codes "ceph.dir.pin.distributed=\"" ++ rest → ⊥)
+  pub no_attribute : ((rest : List ℕ) → told ≡ codes "ceph.dir.entries=\"" ++ rest → ⊥)
+      → ((rest : List ℕ) → told ≡ codes "ceph.dir.pin.distributed=\"" ++ rest → ⊥)
       → ((rest : List ℕ) → told ≡ codes "ceph.dir.pin.random=\"" ++ rest → ⊥) → ((rest : List ℕ) → told ≡ codes "ceph.dir.pin=\"" ++ rest → ⊥)
       → (value : ListedValue) → IsValueOf line value → ⊥
   no_attribute entries distributed random pin value has = none_any told entries distributed random pin (told_any line told value parts has)

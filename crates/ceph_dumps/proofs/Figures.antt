@@ -73,7 +73,8 @@ unsigned_is (Err e) text never =
 unsigned_is (Ok n) text is =
     let v = digits_value 10 (without_leading_plus text) in
     ap (λ (m : ℕ). narrow (Ok m)) is.1
-    ∙ ap (λ (b : Bool). if b then Some v else None) (sym (true_and (is_digits (without_leading_plus text)) (nat_lt v (2 ^ 32)) (are_digits (without_leading_plus text) is.0.0)))
+    ∙ ap (λ (b : Bool). if b then Some v else None)
+    (sym (true_and (is_digits (without_leading_plus text)) (nat_lt v (2 ^ 32)) (are_digits (without_leading_plus text) is.0.0)))
 
 pub unsigned_if : (number : Option (List ℕ)) (r : Option ℕ)
     → MatchOption number (r ≡ None) (λ text. ParsesUnsigned 64 10 text (ok_or r text)) → (n : ℕ) → r ≡ Some n

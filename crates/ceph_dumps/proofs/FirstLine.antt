@@ -12,7 +12,8 @@ module _ (Is : List ℕ → Type 0) (lines : List (Bor (List ℕ))) (texts : Lis
       → All (λ one. Is one.now) (take at lines) → (Is line.now → ⊥) → IsFirstBroken Is texts (at + 1)
   first_broken at line are is inside fine none =
       let parts : take at lines ++ line ∷ drop (at + 1) lines ≡ lines =
-      ap (λ (rest : List (Bor (List ℕ))). take at lines ++ rest) (ap (λ (one : Bor (List ℕ)). one ∷ drop (at + 1) lines) is ∙ sym (drop_more lines at line inside))
+      ap (λ (rest : List (Bor (List ℕ))). take at lines ++ rest)
+      (ap (λ (one : Bor (List ℕ)). one ∷ drop (at + 1) lines) is ∙ sym (drop_more lines at line inside))
       ∙ take-append-drop at lines in
       record {
         before = map text (take at lines);

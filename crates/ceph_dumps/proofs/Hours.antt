@@ -1,5 +1,6 @@
 -- The record of an hour, as it is written and read back.
-use Rattle.std.proofs.Common.{◌≡◌, ◌↔◌, ◌∙◌, ◌==◌, ◌<◌, ◌^◌, ◌++◌, ◌∷◌, ℕ, List, [], All, false, ap, append-nil, append_assoc, arith, drop, length, refl, subst, sym, take}
+use Rattle.std.proofs.Common.{◌≡◌, ◌↔◌, ◌∙◌, ◌==◌, ◌<◌, ◌^◌, ◌++◌, ◌∷◌, ℕ, List, [], All}
+use Rattle.std.proofs.Common.{false, ap, append-nil, append_assoc, arith, drop, length, refl, subst, sym, take}
 use Rattle.std.specs.Prelude.{codes, decimal, map, slice_index, string_bytes}
 use Rattle.std.specs.List.{flat_map, slice_split}
 use Rattle.std.specs.Str.Parse.{IsNumeral, digits_value}
@@ -10,7 +11,9 @@ use Rattle.std.proofs.lemmas.List.{length-map}
 use Rattle.std.proofs.lemmas.List.Elements.{All-append, All-cons, All-head, All-nil, All-tail}
 use Rattle.std.proofs.lemmas.List.Splits.{slice_split_at, slice_split_none}
 use Rattle.ceph_dumps.specs.Complete.{IsWord, line_of}
-use Rattle.ceph_dumps.specs.HourRecord.{AreLinesOf, HeatPath, HourData, IsHeatLine, IsHeatText, IsHourOf, IsWritableHour, blank_words, version_line, heat_line, hour_data, hour_text, line_heat, line_heats, number_behind, spread_of, numbers_text}
+use Rattle.ceph_dumps.specs.HourRecord.{AreLinesOf, HeatPath, HourData, IsHeatLine, IsHeatText, IsHourOf}
+use Rattle.ceph_dumps.specs.HourRecord.{IsWritableHour, blank_words, version_line, heat_line, hour_data, hour_text}
+use Rattle.ceph_dumps.specs.HourRecord.{line_heat, line_heats, number_behind, spread_of, numbers_text}
 use Rattle.ceph_dumps.specs.OwnList.{behind_digits, digit_count, list_lines, name_byte, named_bytes}
 use Rattle.ceph_dumps.specs.declared.hour_record.HourRecord.{HourRecord}
 use Rattle.ceph_dumps.proofs.Names.{decimal_digits, digits_counted, named_path, no_blank_in_digits, no_newline_in_digits, no_newline_in_name}
@@ -40,7 +43,8 @@ line_cut past rest small =
     ap (λ (text : List ℕ). text ++ codes "\n" ++ rest) (append_assoc (decimal past.0) (codes " ") name) ∙ append_assoc (line_text past) (codes "\n") rest in
     ap list_lines shape
     ∙ slice_split_at (λ byte. byte == 10) (line_text past) 10 rest
-    (All-append (λ c. (c == 10) ≡ false) (decimal past.0) (32 ∷ name) (no_newline_in_digits (decimal past.0) (decimal_digits past.0 small)) (All-cons (λ c. (c == 10) ≡ false) 32 name refl (no_newline_in_name past.1)))
+    (All-append (λ c. (c == 10) ≡ false) (decimal past.0) (32 ∷ name) (no_newline_in_digits (decimal past.0) (decimal_digits past.0 small))
+    (All-cons (λ c. (c == 10) ≡ false) 32 name refl (no_newline_in_name past.1)))
     refl
 
 -- what lies on both sides of the first blank
@@ -100,7 +104,9 @@ words_split word [] free fine =
 words_split word (heat ∷ heats) free fine =
     let one : heat < 2 ^ 64 = All-head (λ h. h < 2 ^ 64) heat heats fine in
     slice_split_at (λ c. c == 32) word 32 (decimal heat ++ flat_map number_behind heats) free refl
-    ∙ ap (λ (those : List (List ℕ)). word ∷ those) (words_split (decimal heat) heats (no_blank_in_digits (decimal heat) (decimal_digits heat one)) (All-tail (λ h. h < 2 ^ 64) heat heats fine))
+    ∙ ap (λ (those : List (List ℕ)). word ∷ those)
+    (words_split (decimal heat) heats (no_blank_in_digits (decimal heat) (decimal_digits heat one))
+    (All-tail (λ h. h < 2 ^ 64) heat heats fine))
 
 spread_words : (spread : List ℕ) → 0 < length spread → All (λ heat. heat < 2 ^ 64) spread → blank_words (numbers_text spread) ≡ map decimal spread
 spread_words [] some fine = absurd (omega (arith, some))
@@ -117,7 +123,8 @@ values_back (heat ∷ heats) fine =
 texts_fine : (spread : List ℕ) → All (λ heat. heat < 2 ^ 64) spread → All IsHeatText (map decimal spread)
 texts_fine [] fine = All-nil IsHeatText
 texts_fine (heat ∷ heats) fine =
-    All-cons IsHeatText (decimal heat) (map decimal heats) (number_text heat (All-head (λ h. h < 2 ^ 64) heat heats fine)) (texts_fine heats (All-tail (λ h. h < 2 ^ 64) heat heats fine))
+    All-cons IsHeatText (decimal heat) (map decimal heats) (number_text heat (All-head (λ h. h < 2 ^ 64) heat heats fine))
+    (texts_fine heats (All-tail (λ h. h < 2 ^ 64) heat heats fine))
 
 no_newline_behind : (heats : List ℕ) → All (λ heat. heat < 2 ^ 64) heats → All (λ c. (c == 10) ≡ false) (flat_map number_behind heats)
 no_newline_behind [] fine = All-nil _
@@ -152,12 +159,15 @@ text_lines hour fine =
     let parts : hour_text hour ≡ head ++ (line ++ third) =
     append_assoc (head ++ line ++ spread) (codes "\n") below ∙ (append_assoc (head ++ line) spread (10 ∷ below) ∙ append_assoc head line third) in
     let shape : line ++ third ≡ second ++ 10 ∷ third =
-    append_assoc hour.name (32 ∷ (hour.fsid ++ 10 ∷ [])) third ∙ (ap (λ (text : List ℕ). hour.name ++ 32 ∷ text) (append_assoc hour.fsid (10 ∷ []) third) ∙ sym (append_assoc hour.name (32 ∷ hour.fsid) (10 ∷ third))) in
+    append_assoc hour.name (32 ∷ (hour.fsid ++ 10 ∷ [])) third
+    ∙ (ap (λ (text : List ℕ). hour.name ++ 32 ∷ text) (append_assoc hour.fsid (10 ∷ []) third)
+    ∙ sym (append_assoc hour.name (32 ∷ hour.fsid) (10 ∷ third))) in
     ap list_lines parts
     ∙ (first_cut (line ++ third)
     ∙ ap (λ (those : List (List ℕ)). version_line ∷ those) (ap list_lines shape
     ∙ (slice_split_at (λ byte. byte == 10) second 10 third
-    (All-append (λ c. (c == 10) ≡ false) hour.name (32 ∷ hour.fsid) (no_newline_in_word hour.name fine.name) (All-cons (λ c. (c == 10) ≡ false) 32 hour.fsid refl (no_newline_in_word hour.fsid fine.fsid))) refl
+    (All-append (λ c. (c == 10) ≡ false) hour.name (32 ∷ hour.fsid) (no_newline_in_word hour.name fine.name)
+    (All-cons (λ c. (c == 10) ≡ false) 32 hour.fsid refl (no_newline_in_word hour.fsid fine.fsid))) refl
     ∙ ap (λ (those : List (List ℕ)). second ∷ those)
     (slice_split_at (λ byte. byte == 10) spread 10 below (no_newline_in_spread hour.spread fine.spread) refl))))
 
@@ -166,7 +176,8 @@ ends : (front : List ℕ) (heats : List HeatPath) → (f : List ℕ) × (front +
 ends front [] = (front, append-nil (front ++ codes "\n"))
 ends front (past ∷ heats) =
     let line : List ℕ = decimal past.0 ++ codes " " ++ flat_map name_byte past.1 in
-    let more : (f : List ℕ) × (front ++ codes "\n" ++ line ++ codes "\n" ++ flat_map heat_line heats ≡ f ++ codes "\n") = ends (front ++ codes "\n" ++ line) heats in (
+    let more : (f : List ℕ) × (front ++ codes "\n" ++ line ++ codes "\n" ++ flat_map heat_line heats ≡ f ++ codes "\n") =
+    ends (front ++ codes "\n" ++ line) heats in (
       more.0,
       sym (append_assoc (front ++ codes "\n") (line ++ codes "\n") (flat_map heat_line heats))
           ∙ (ap (λ (text : List ℕ). text ++ flat_map heat_line heats) (sym (append_assoc (front ++ codes "\n") line (codes "\n"))) ∙ more.1),

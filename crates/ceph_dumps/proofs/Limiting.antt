@@ -1,5 +1,6 @@
 -- Fragments whose heat is limited, one by one.
-use Rattle.std.proofs.Common.{◌≡◌, ◌<◌, ◌+◌, ◌∙◌, ℕ, List, [], ◌∷◌, ◌++◌, length, drop, get_or, set, take, map, arith, ap, sym, drop-set-lt, get_or-drop, get_or-set_same, length-set}
+use Rattle.std.proofs.Common.{◌≡◌, ◌<◌, ◌+◌, ◌∙◌, ℕ, List, [], ◌∷◌, ◌++◌, length, drop}
+use Rattle.std.proofs.Common.{get_or, set, take, map, arith, ap, sym, drop-set-lt, get_or-drop, get_or-set_same, length-set}
 use Rattle.std.proofs.Common.{◌≤◌, ◌*◌, ◌/◌, min}
 use Rattle.mds_types.specs.declared.limits.TheConstants.{HEAT_LIMIT}
 use Rattle.std.proofs.lemmas.List.Elements.{All-cons}
@@ -28,9 +29,11 @@ one_limited now old at d new inside within is rest done =
     map_more fragment_data changed at d (omega (arith, inside, length-set now at new))
     ∙ ap (λ (l : List FragmentHeat). map fragment_data l ++ fragment_data (get_or changed at d) ∷ []) (take-set-le at now at new (omega arith))
     ∙ ap (λ (f : FragmentHeat). map fragment_data (take at now) ++ fragment_data f ∷ []) (get_or-set_same now at new d inside)
-    ∙ ap (λ (f : FragmentData). map fragment_data (take at now) ++ f ∷ []) (is ∙ ap (λ (f : FragmentHeat). limited (fragment_data f)) (same_at now old at d rest))
+    ∙ ap (λ (f : FragmentData). map fragment_data (take at now) ++ f ∷ [])
+    (is ∙ ap (λ (f : FragmentHeat). limited (fragment_data f)) (same_at now old at d rest))
     ∙ ap (λ (l : List FragmentData). l ++ limited (fragment_data (get_or old at d)) ∷ []) done
-    ∙ sym (ap (map limited) (map_more fragment_data old at d within) ∙ map-append limited (map fragment_data (take at old)) (fragment_data (get_or old at d) ∷ []))
+    ∙ sym (ap (map limited) (map_more fragment_data old at d within)
+    ∙ map-append limited (map fragment_data (take at old)) (fragment_data (get_or old at d) ∷ []))
 
 pub rest_kept : (now old : List FragmentHeat) (at : ℕ) (new : FragmentHeat) → drop at now ≡ drop at old
     → drop (at + 1) (set now at new) ≡ drop (at + 1) old

@@ -20,7 +20,9 @@ and_no false = refl
 no_octal : (c : ℕ) (cs : List ℕ) → (c == 92) ≡ false → octal_byte (c ∷ cs) ≡ None
 no_octal c cs other =
     let none : has_octal (c ∷ cs) ≡ false =
-    ap (λ (b : Bool). nat_le 4 (length (c ∷ cs)) && (b && (is_digit_to 51 (slice_index (c ∷ cs) 1) && (is_digit_to 55 (slice_index (c ∷ cs) 2) && is_digit_to 55 (slice_index (c ∷ cs) 3))))) other
+    ap (λ (b : Bool). nat_le 4 (length (c ∷ cs))
+    && (b && (is_digit_to 51 (slice_index (c ∷ cs) 1)
+    && (is_digit_to 55 (slice_index (c ∷ cs) 2) && is_digit_to 55 (slice_index (c ∷ cs) 3))))) other
     ∙ and_no (nat_le 4 (length (c ∷ cs))) in
     rw none refl
 
@@ -37,7 +39,8 @@ named_plain (c ∷ cs) none =
     named_other c cs parts.0 ∙ ap (λ (rest : List ℕ). c ∷ rest) (named_plain cs parts.1)
 
 -- an octal escape means its byte
-escape_read : (byte x y z : ℕ) (rest : List ℕ) → octal_byte (92 ∷ x ∷ y ∷ z ∷ rest) ≡ Some byte → named_bytes 0 (92 ∷ x ∷ y ∷ z ∷ rest) ≡ byte ∷ named_bytes 0 rest
+escape_read : (byte x y z : ℕ) (rest : List ℕ) → octal_byte (92 ∷ x ∷ y ∷ z ∷ rest) ≡ Some byte
+    → named_bytes 0 (92 ∷ x ∷ y ∷ z ∷ rest) ≡ byte ∷ named_bytes 0 rest
 escape_read byte x y z rest is =
     ap (λ (byte : Option ℕ). unwrap_or byte 92 ∷ named_bytes (if is_some byte then 3 else 0) (x ∷ y ∷ z ∷ rest)) is
 
@@ -98,7 +101,8 @@ no_newline_in_byte c false false false other line return = rw other (rw line (rw
 pub no_newline_in_name : (path : List ℕ) → All (λ c. (c == 10) ≡ false) (flat_map name_byte path)
 no_newline_in_name [] = All-nil _
 no_newline_in_name (c ∷ cs) =
-    All-append (λ c. (c == 10) ≡ false) (name_byte c) (flat_map name_byte cs) (no_newline_in_byte c (c == 92) (c == 10) (c == 13) refl refl refl) (no_newline_in_name cs)
+    All-append (λ c. (c == 10) ≡ false) (name_byte c) (flat_map name_byte cs)
+    (no_newline_in_byte c (c == 92) (c == 10) (c == 13) refl refl refl) (no_newline_in_name cs)
 
 -- a number is written in digits
 pub decimal_digits : (number : ℕ) → number < 2 ^ 64 → AllDigits 10 (decimal number)

@@ -1,5 +1,6 @@
 -- What was widened is narrowed again.
-use Rattle.std.proofs.Common.{◌≡◌, ◌∙◌, ◌<◌, ◌≤◌, ◌+◌, ◌*◌, ◌/◌, ◌%◌, ◌⊎◌, ℕ, true, false, ltb, List, [], ◌∷◌, ◌++◌, All, Option, Some, None, drop, length, inl, inr, refl, ap, sym, arith, ⊎_elim}
+use Rattle.std.proofs.Common.{◌≡◌, ◌∙◌, ◌<◌, ◌≤◌, ◌+◌, ◌*◌, ◌/◌, ◌%◌, ◌⊎◌, ℕ, true, false, ltb, List, []}
+use Rattle.std.proofs.Common.{◌∷◌, ◌++◌, All, Option, Some, None, drop, length, inl, inr, refl, ap, sym, arith, ⊎_elim}
 use Rattle.std.proofs.lemmas.List.{append-nil, drop_all}
 use Rattle.std.proofs.lemmas.Bool.{cases_Bool, ne_eqb}
 use Rattle.std.proofs.lemmas.Bool.Decides.{nat_tests}

@@ -43,8 +43,10 @@ test_false b never = ⊎_elim (λ (e : b ≡ true). absurd (never e)) (λ (e : b
 no_word : (byte : ℕ) (text : List ℕ) → HasNoWord (byte ∷ text) → word_length (byte ∷ text) ≡ 0
 no_word byte text none =
     let rest = behind byte text none in
-    let no_inf = test_false (begins_with (byte ∷ text) (codes "inf")) (λ e. none.inf 0 (occurs (byte ∷ text) (codes "inf") (begun (byte ∷ text) (codes "inf") e))) in
-    let no_nan = test_false (begins_with (byte ∷ text) (codes "nan")) (λ e. none.nan 0 (occurs (byte ∷ text) (codes "nan") (begun (byte ∷ text) (codes "nan") e))) in
+    let no_inf = test_false (begins_with (byte ∷ text) (codes "inf"))
+    (λ e. none.inf 0 (occurs (byte ∷ text) (codes "inf") (begun (byte ∷ text) (codes "inf") e))) in
+    let no_nan = test_false (begins_with (byte ∷ text) (codes "nan"))
+    (λ e. none.nan 0 (occurs (byte ∷ text) (codes "nan") (begun (byte ∷ text) (codes "nan") e))) in
     let no_minus_inf = test_false (begins_with (byte ∷ text) (codes "-inf")) (λ e.
     rest.inf 0 (occurs text (codes "inf") (ap (λ (t : List ℕ). drop 1 t) (begun (byte ∷ text) (codes "-inf") e)))) in
     let no_minus_nan = test_false (begins_with (byte ∷ text) (codes "-nan")) (λ e.

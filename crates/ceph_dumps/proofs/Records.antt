@@ -51,7 +51,8 @@ first_nul (c ∷ a) (d ∷ b) x y one two is =
     cc
 
 -- one more of each
-pub one_more : {A B : Type 0} (R : A → B → Type 0) (xs : List A) (ys : List B) (x : A) (y : B) → AreOneForOne R xs ys → R x y → AreOneForOne R (xs ++ x ∷ []) (ys ++ y ∷ [])
+pub one_more : {A B : Type 0} (R : A → B → Type 0) (xs : List A) (ys : List B) (x : A) (y : B) → AreOneForOne R xs ys → R x y
+    → AreOneForOne R (xs ++ x ∷ []) (ys ++ y ∷ [])
 one_more R [] [] x y so here = (here, tt)
 one_more R [] (v ∷ ys) x y so here = absurd so
 one_more R (u ∷ xs) [] x y so here = absurd so

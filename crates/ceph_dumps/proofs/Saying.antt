@@ -72,9 +72,12 @@ module _ {A : Type 0} (said : Json → Option A) (none : (j : Json) → as_objec
   no_object depth (Token.begin_array ∷ ts) e = ap (said_of said) (value_is depth (Token.begin_array ∷ ts)) ∙ array_unsaid _
   no_object depth (Token.end_array ∷ ts) e = ap (said_of said) (value_is depth (Token.end_array ∷ ts))
   no_object depth (Token.key text ∷ ts) e = ap (said_of said) (value_is depth (Token.key text ∷ ts))
-  no_object depth (Token.string text ∷ ts) e = ap (said_of said) (value_is depth (Token.string text ∷ ts)) ∙ ap (option_map (λ w. (w, ts))) (none (Json.string text) refl)
-  no_object depth (Token.number text ∷ ts) e = ap (said_of said) (value_is depth (Token.number text ∷ ts)) ∙ ap (option_map (λ w. (w, ts))) (none (Json.number text) refl)
-  no_object depth (Token.boolean truth ∷ ts) e = ap (said_of said) (value_is depth (Token.boolean truth ∷ ts)) ∙ ap (option_map (λ w. (w, ts))) (none (Json.boolean truth) refl)
+  no_object depth (Token.string text ∷ ts) e = ap (said_of said) (value_is depth (Token.string text ∷ ts))
+      ∙ ap (option_map (λ w. (w, ts))) (none (Json.string text) refl)
+  no_object depth (Token.number text ∷ ts) e = ap (said_of said) (value_is depth (Token.number text ∷ ts))
+      ∙ ap (option_map (λ w. (w, ts))) (none (Json.number text) refl)
+  no_object depth (Token.boolean truth ∷ ts) e = ap (said_of said) (value_is depth (Token.boolean truth ∷ ts))
+      ∙ ap (option_map (λ w. (w, ts))) (none (Json.boolean truth) refl)
   no_object depth (Token.null ∷ ts) e = ap (said_of said) (value_is depth (Token.null ∷ ts)) ∙ ap (option_map (λ w. (w, ts))) (none Json.null refl)
   no_object depth (Token.bad ∷ ts) e = ap (said_of said) (value_is depth (Token.bad ∷ ts))
 

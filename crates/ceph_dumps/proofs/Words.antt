@@ -1,5 +1,6 @@
 -- Two words with a blank between them: where the first ends.
-use Rattle.std.proofs.Common.{◌≡◌, ◌∙◌, ◌<◌, ◌≤◌, ◌++◌, ◌∷◌, ◌==◌, ℕ, List, All, true, false, ap, arith, drop, length, refl, slice_index, subst, sym, take, ⊎_elim}
+use Rattle.std.proofs.Common.{◌≡◌, ◌∙◌, ◌<◌, ◌≤◌, ◌++◌, ◌∷◌, ◌==◌, ℕ, List, All, true}
+use Rattle.std.proofs.Common.{false, ap, arith, drop, length, refl, slice_index, subst, sym, take, ⊎_elim}
 use Rattle.std.specs.Str.{IsAscii}
 use Rattle.std.proofs.Math.Seq.{drop-append_seam, get_or-append_seam, take-append_seam}
 use Rattle.std.proofs.lemmas.Bool.{both_ways, cases_lt}

@@ -92,7 +92,8 @@ quiet_word : (place : Place) (byte : ℕ) (text : List ℕ) → is_quiet_byte pl
 quiet_word Bare byte text quiet =
     let none = four (byte == 34) (byte == 45) (byte == 105) (byte == 110) quiet in
     rw (not_begun byte text 45 (codes "inf") none.1)
-    (rw (not_begun byte text 45 (codes "nan") none.1) (rw (not_begun byte text 105 (codes "nf") none.2) (rw (not_begun byte text 110 (codes "an") none.3) refl)))
+    (rw (not_begun byte text 45 (codes "nan") none.1)
+    (rw (not_begun byte text 105 (codes "nf") none.2) (rw (not_begun byte text 110 (codes "an") none.3) refl)))
 quiet_word Quoted byte text quiet = refl
 quiet_word Escaped byte text quiet = refl
 

@@ -1,5 +1,6 @@
 -- The heats of earlier hours, as they follow the directories.
-use Rattle.std.proofs.Common.{◌≡◌, ◌≢◌, ◌∙◌, ◌<◌, ◌+◌, ◌++◌, ◌∷◌, ℕ, Bool, List, [], Global, Vec, false, true, ap, arith, length, refl, slice_index, sym, ⊎_elim}
+use Rattle.std.proofs.Common.{◌≡◌, ◌≢◌, ◌∙◌, ◌<◌, ◌+◌, ◌++◌, ◌∷◌, ℕ, Bool, List, []}
+use Rattle.std.proofs.Common.{Global, Vec, false, true, ap, arith, length, refl, slice_index, sym, ⊎_elim}
 use Rattle.std.proofs.lemmas.Bool.{both_ways, cases_eq}
 use Rattle.std.proofs.lemmas.List.{get_or_append_left, get_or_push}
 use Rattle.ceph_snapshot.specs.Holding.{is_marked}
@@ -16,7 +17,8 @@ keep_more gone heats kept x at size is before i l keeps =
     ∙ (get_or_push kept x 0 (length kept) refl ∙ (is ∙ ap (slice_index heats) (sym last))))
     (λ (other : i ≢ at).
     let inside : i < at = omega (arith, other, l) in
-    get_or_append_left kept (x ∷ []) 0 (kept_below (is_marked gone) i) (omega (arith, kept_lt (is_marked gone) i at inside keeps, size)) ∙ before i inside keeps)
+    get_or_append_left kept (x ∷ []) 0 (kept_below (is_marked gone) i) (omega (arith, kept_lt (is_marked gone) i at inside keeps, size))
+    ∙ before i inside keeps)
     (cases_eq i at)
 
 -- one more that is gone

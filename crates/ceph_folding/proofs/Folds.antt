@@ -1,12 +1,14 @@
 -- Homes, new places, and what is added up.
-use Rattle.std.proofs.Common.{◌≡◌, ◌≢◌, ◌∙◌, ℕ, zero, suc, ◌+◌, ◌<◌, ◌≤◌, ◌++◌, Bool, true, false, not, cond, eqb, List, [], ◌∷◌, length, slice_get, slice_index, take, Option, Some, None, refl, ap, sym, subst, ⊎_elim, arith, add-zero, set}
+use Rattle.std.proofs.Common.{◌≡◌, ◌≢◌, ◌∙◌, ℕ, zero, suc, ◌+◌, ◌<◌, ◌≤◌, ◌++◌, Bool, true, false, not, cond, eqb, List}
+use Rattle.std.proofs.Common.{[], ◌∷◌, length, slice_get, slice_index, take, Option, Some, None, refl, ap, sym, subst, ⊎_elim, arith, add-zero, set}
 use Rattle.std.specs.List.{sum_by}
 use Rattle.std.specs.Option.{option_map, option_map_or}
 use Rattle.std.proofs.lemmas.Bool.{cases_Bool, cases_eq, eq-eqb, ne_eqb}
 use Rattle.std.proofs.lemmas.List.{get_or_append_left, get_or_push, get_or-set_other, get_or-set_same}
 use Rattle.std.proofs.lemmas.List.Sums.{sum_by-cons}
 use Rattle.mds_types.specs.Sums.{sum_below}
-use Rattle.mds_types.proofs.SumsLemmas.{count_below-le, sum_below-fewer, sum_below-only, sum_below-pick, sum_below-same, sum_below-swap, sum_below-zero, sum_below_more}
+use Rattle.mds_types.proofs.SumsLemmas.{count_below-le, sum_below-fewer, sum_below-only, sum_below-pick}
+use Rattle.mds_types.proofs.SumsLemmas.{sum_below-same, sum_below-swap, sum_below-zero, sum_below_more}
 use Rattle.ceph_snapshot.specs.declared.directory.Directory.{Directory}
 use Rattle.ceph_folding.specs.Folding.{HasLeft, IsFolded, IsHome, all_heat, all_inodes, all_writes, brought, kept_below, put_together, with_amounts}
 use Rattle.ceph_snapshot.specs.Holding.{climb, heat_at, inodes_at, parent_at, writes_at, is_marked}
@@ -29,7 +31,12 @@ nearer_more ds gone i is steps nearer zero l = is
 nearer_more ds gone i is steps nearer (suc n) l = nearer n (omega (arith, l))
 
 pub home_above : (ds : List Directory) (gone : ℕ → Bool) (i home : ℕ) → gone i ≡ true → IsHome ds gone (parent_at ds i) home → IsHome ds gone i home
-home_above ds gone i home is above = record { steps = suc above.steps; there = above.there; kept = above.kept; nearer = nearer_more ds gone i is above.steps above.nearer }
+home_above ds gone i home is above = record {
+  steps = suc above.steps;
+  there = above.there;
+  kept = above.kept;
+  nearer = nearer_more ds gone i is above.steps above.nearer;
+}
 
 -- one more home that was found
 pub homes_more : (ds : List Directory) (gone : ℕ → Bool) (homes : List ℕ) (home n : ℕ) → length homes ≡ n
@@ -80,7 +87,8 @@ pub kept_lt : (gone : ℕ → Bool) (i n : ℕ) → i < n → gone i ≡ false �
 kept_lt gone i n l kept = omega (arith, kept_more gone i kept, kept_le gone (i + 1) n (let le : i + 1 ≤ n = omega (arith, l) in le))
 
 -- one more directory that is kept is put to its place
-pub put_more : (old before after : List Directory) (gone : List Bool) (parents heats writes inodes : List ℕ) (at kept : ℕ) → is_marked gone at ≡ false → kept ≡ kept_below (is_marked gone) at
+pub put_more : (old before after : List Directory) (gone : List Bool) (parents heats writes inodes : List ℕ) (at kept : ℕ)
+    → is_marked gone at ≡ false → kept ≡ kept_below (is_marked gone) at
     → ((i : ℕ) → i < at → is_marked gone i ≡ false → slice_get before (kept_below (is_marked gone) i) ≡ put_together old parents heats writes inodes i)
     → ((i : ℕ) → i < kept → slice_get after i ≡ slice_get before i)
     → slice_get after kept ≡ put_together old parents heats writes inodes at
@@ -144,7 +152,8 @@ has_left ds closed left gone homes parents heats writes inodes kept nearest insi
       ∙ all_four (slice_get ds i) _ _ _ _ _ _ _ _ (ups i l) (warm i l) (wrote i l) (many i l)));
 }
   where
-    all_four : (o : Option Directory) (p q h k w v m n : ℕ) → p ≡ q → h ≡ k → w ≡ v → m ≡ n → option_map (with_amounts p h w m) o ≡ option_map (with_amounts q k v n) o
+    all_four : (o : Option Directory) (p q h k w v m n : ℕ) → p ≡ q → h ≡ k → w ≡ v → m ≡ n
+        → option_map (with_amounts p h w m) o ≡ option_map (with_amounts q k v n) o
     all_four o p q h k w v m n up warm wrote many = rw (up, warm, wrote, many) refl
 
 -- where each place is its own home, what comes there is its own
@@ -159,8 +168,10 @@ pub all_kept : (n : ℕ) → kept_below (λ i. false) n ≡ n
 all_kept zero = refl
 all_kept (suc n) = omega (arith, all_kept n)
 
-same_amounts : (o : Option Directory) (parent heat writes inodes : ℕ) → parent ≡ option_map_or (λ (d : Directory). d.parent) o 0 → heat ≡ option_map_or (λ (d : Directory). d.heat) o 0
-    → writes ≡ option_map_or (λ (d : Directory). d.writes) o 0 → inodes ≡ option_map_or (λ (d : Directory). d.inodes) o 0 → o ≡ option_map (with_amounts parent heat writes inodes) o
+same_amounts : (o : Option Directory) (parent heat writes inodes : ℕ) → parent ≡ option_map_or (λ (d : Directory). d.parent) o 0
+    → heat ≡ option_map_or (λ (d : Directory). d.heat) o 0
+    → writes ≡ option_map_or (λ (d : Directory). d.writes) o 0 → inodes ≡ option_map_or (λ (d : Directory). d.inodes) o 0
+    → o ≡ option_map (with_amounts parent heat writes inodes) o
 same_amounts None parent heat writes inodes up warm wrote many = refl
 same_amounts (Some d) parent heat writes inodes up warm wrote many = rw (up, warm, wrote, many) refl
 
@@ -184,9 +195,11 @@ nothing_folded ds = (
 -- sums over the directories that are left
 sum_listed : (f : Directory → ℕ) (ds : List Directory) → sum_by f ds ≡ sum_below (length ds) (λ i. option_map_or f (slice_get ds i) 0)
 sum_listed f [] = refl
-sum_listed f (d ∷ ds) = sum_by-cons f d ds ∙ (ap (λ (k : ℕ). f d + k) (sum_listed f ds) ∙ sym (sum_front (length ds) (λ i. option_map_or f (slice_get (d ∷ ds) i) 0)))
+sum_listed f (d ∷ ds) = sum_by-cons f d ds
+    ∙ (ap (λ (k : ℕ). f d + k) (sum_listed f ds) ∙ sym (sum_front (length ds) (λ i. option_map_or f (slice_get (d ∷ ds) i) 0)))
 
-sum_kept : (gone : ℕ → Bool) (g h : ℕ → ℕ) (n : ℕ) → ((i : ℕ) → i < n → gone i ≡ true → h i ≡ 0) → ((i : ℕ) → i < n → gone i ≡ false → g (kept_below gone i) ≡ h i)
+sum_kept : (gone : ℕ → Bool) (g h : ℕ → ℕ) (n : ℕ) → ((i : ℕ) → i < n → gone i ≡ true → h i ≡ 0)
+    → ((i : ℕ) → i < n → gone i ≡ false → g (kept_below gone i) ≡ h i)
     → sum_below (kept_below gone n) g ≡ sum_below n h
 sum_kept gone g h zero none some = refl
 sum_kept gone g h (suc n) none some =
@@ -205,7 +218,8 @@ sum_kept gone g h (suc n) none some =
 brought_all : (n : ℕ) (amount home : ℕ → ℕ) → ((i : ℕ) → i < n → home i < n) → sum_below n (brought amount home n) ≡ sum_below n amount
 brought_all n amount home inside =
     sum_below-swap n n (λ there i. cond (eqb (home i) there) (amount i) 0)
-    ∙ sum_below-same n (λ i. sum_below n (λ there. cond (eqb (home i) there) (amount i) 0)) amount (λ i l. sum_below-pick n (home i) (λ there. amount i) (inside i l))
+    ∙ sum_below-same n (λ i. sum_below n (λ there. cond (eqb (home i) there) (amount i) 0)) amount
+    (λ i l. sum_below-pick n (home i) (λ there. amount i) (inside i l))
 
 there : (ds : List Directory) (i : ℕ) → i < length ds → (d : Directory) × (slice_get ds i ≡ Some d)
 there [] i l = let none : ⊥ = omega (arith, l) in absurd none
@@ -214,7 +228,8 @@ there (d ∷ ds) (suc i) l = there ds i (omega (arith, l))
 
 -- each place has what came to it, which is all there was
 total : (f : Directory → ℕ) (ds left : List Directory) (gone : ℕ → Bool) (home : ℕ → ℕ) → HasLeft ds left gone home
-    → ((i : ℕ) → i < length ds → gone i ≡ false → option_map_or f (slice_get left (kept_below gone i)) 0 ≡ brought (λ j. option_map_or f (slice_get ds j) 0) home (length ds) i)
+    → ((i : ℕ) → i < length ds → gone i ≡ false → option_map_or f (slice_get left (kept_below gone i)) 0
+    ≡ brought (λ j. option_map_or f (slice_get ds j) 0) home (length ds) i)
     → sum_by f left ≡ sum_by f ds
 total f ds left gone home has here =
     let amount : ℕ → ℕ = λ j. option_map_or f (slice_get ds j) 0 in
@@ -232,17 +247,26 @@ total f ds left gone home has here =
 pub same_heat : (ds left : List Directory) (gone : ℕ → Bool) (home : ℕ → ℕ) → HasLeft ds left gone home → all_heat left ≡ all_heat ds
 same_heat ds left gone home has = total (λ d. d.heat) ds left gone home has (λ i l keeps.
     let at = there ds i l in
-    ap (λ (o : Option Directory). option_map_or (λ (d : Directory). d.heat) o 0) (has.kept i l keeps ∙ ap (λ (o : Option Directory). option_map (with_amounts (kept_below gone (home (parent_at ds i))) (brought (heat_at ds) home (length ds) i) (brought (writes_at ds) home (length ds) i) (brought (inodes_at ds) home (length ds) i)) o) at.1))
+    ap (λ (o : Option Directory). option_map_or (λ (d : Directory). d.heat) o 0)
+    (has.kept i l keeps ∙ ap (λ (o : Option Directory). option_map
+    (with_amounts (kept_below gone (home (parent_at ds i))) (brought (heat_at ds) home (length ds) i)
+    (brought (writes_at ds) home (length ds) i) (brought (inodes_at ds) home (length ds) i)) o) at.1))
 
 pub same_writes : (ds left : List Directory) (gone : ℕ → Bool) (home : ℕ → ℕ) → HasLeft ds left gone home → all_writes left ≡ all_writes ds
 same_writes ds left gone home has = total (λ d. d.writes) ds left gone home has (λ i l keeps.
     let at = there ds i l in
-    ap (λ (o : Option Directory). option_map_or (λ (d : Directory). d.writes) o 0) (has.kept i l keeps ∙ ap (λ (o : Option Directory). option_map (with_amounts (kept_below gone (home (parent_at ds i))) (brought (heat_at ds) home (length ds) i) (brought (writes_at ds) home (length ds) i) (brought (inodes_at ds) home (length ds) i)) o) at.1))
+    ap (λ (o : Option Directory). option_map_or (λ (d : Directory). d.writes) o 0)
+    (has.kept i l keeps ∙ ap (λ (o : Option Directory). option_map
+    (with_amounts (kept_below gone (home (parent_at ds i))) (brought (heat_at ds) home (length ds) i)
+    (brought (writes_at ds) home (length ds) i) (brought (inodes_at ds) home (length ds) i)) o) at.1))
 
 pub same_inodes : (ds left : List Directory) (gone : ℕ → Bool) (home : ℕ → ℕ) → HasLeft ds left gone home → all_inodes left ≡ all_inodes ds
 same_inodes ds left gone home has = total (λ d. d.inodes) ds left gone home has (λ i l keeps.
     let at = there ds i l in
-    ap (λ (o : Option Directory). option_map_or (λ (d : Directory). d.inodes) o 0) (has.kept i l keeps ∙ ap (λ (o : Option Directory). option_map (with_amounts (kept_below gone (home (parent_at ds i))) (brought (heat_at ds) home (length ds) i) (brought (writes_at ds) home (length ds) i) (brought (inodes_at ds) home (length ds) i)) o) at.1))
+    ap (λ (o : Option Directory). option_map_or (λ (d : Directory). d.inodes) o 0)
+    (has.kept i l keeps ∙ ap (λ (o : Option Directory). option_map
+    (with_amounts (kept_below gone (home (parent_at ds i))) (brought (heat_at ds) home (length ds) i)
+    (brought (writes_at ds) home (length ds) i) (brought (inodes_at ds) home (length ds) i)) o) at.1))
 
 -- what a directory has comes to its home
 pub brought-more : (amount home : ℕ → ℕ) (sums : List ℕ) (n at sum : ℕ) → length sums ≡ n → home at < n → sum ≡ slice_index sums (home at) + amount at
@@ -268,4 +292,5 @@ brought-more amount home sums n at sum size inside is before there l =
 -- what comes to a home is the same where the amounts are
 pub brought-alike : (one two home : ℕ → ℕ) (n there : ℕ) → ((i : ℕ) → i < n → one i ≡ two i) → brought one home n there ≡ brought two home n there
 brought-alike one two home n there same =
-    sum_below-same n (λ i. cond (eqb (home i) there) (one i) 0) (λ i. cond (eqb (home i) there) (two i) 0) (λ i l. ap (λ (k : ℕ). cond (eqb (home i) there) k 0) (same i l))
+    sum_below-same n (λ i. cond (eqb (home i) there) (one i) 0) (λ i. cond (eqb (home i) there) (two i) 0)
+    (λ i l. ap (λ (k : ℕ). cond (eqb (home i) there) k 0) (same i l))

@@ -3,7 +3,8 @@ use Rattle.ceph_snapshot.proofs.Adding.{before-inside}
 use Rattle.std.proofs.lemmas.Option.{slice_get-get_or}
 use Rattle.std.specs.Option.{option_map_or}
 use Rattle.std.proofs.Math.Nat.{le_refl, le_trans, lt_trans}
-use Rattle.std.proofs.Common.{◌≡◌, ◌≢◌, ◌∙◌, ◌+◌, ◌<◌, ◌≤◌, ◌&&◌, ◌⊎◌, ℕ, zero, suc, Bool, true, false, not, List, length, cond, eqb, nat_le, set, slice_index, inl, inr, ⊎_elim, ap, arith, min, refl, subst, sym, ◌-◌, slice_get, get_or, Option, Some}
+use Rattle.std.proofs.Common.{◌≡◌, ◌≢◌, ◌∙◌, ◌+◌, ◌<◌, ◌≤◌, ◌&&◌, ◌⊎◌, ℕ, zero, suc, Bool, true, false, not, List, length, cond}
+use Rattle.std.proofs.Common.{eqb, nat_le, set, slice_index, inl, inr, ⊎_elim, ap, arith, min, refl, subst, sym, ◌-◌, slice_get, get_or, Option, Some}
 use Rattle.std.proofs.lemmas.Bool.{and_from, and_parts, both_ways, cases_Bool, cases_eq, cases_lt, eq-eqb, le-leb, leb-true, ne_eqb, not_from_false}
 use Rattle.std.proofs.lemmas.Grind.{common_steps}
 use Rattle.std.proofs.lemmas.List.{get_or-set_other, get_or-set_same}
@@ -18,7 +19,8 @@ use Rattle.ceph_folding.specs.Keys.{goes, is_at_most, key_at}
 -- nothing was counted yet
 pub none-below : (ds : List Directory) (heat : ℕ → ℕ) (first i : ℕ) → length ds ≤ first → of_children ds heat first i ≡ 0
 none-below ds heat first i past =
-    sum_below-zero (length ds) (λ c. cond (nat_le first c && eqb (parent_at ds c) i) (heat c) 0) (λ c l. none (nat_le first c) (eqb (parent_at ds c) i) (heat c) (early c l))
+    sum_below-zero (length ds) (λ c. cond (nat_le first c && eqb (parent_at ds c) i) (heat c) 0)
+    (λ c l. none (nat_le first c) (eqb (parent_at ds c) i) (heat c) (early c l))
   where
     none : (a b : Bool) (x : ℕ) → a ≡ false → cond (a && b) x 0 ≡ 0
     none a b x is = rw is refl
@@ -72,13 +74,15 @@ pub below-more : (ds : List Directory) (heats : List ℕ) (at above more : ℕ) 
 below-more ds heats at above more size inside parent up sum before i l =
     let new : ℕ → ℕ = slice_index (set heats above more) in
     let children : of_children ds new at i ≡ of_children ds (slice_index heats) (at + 1) i + cond (eqb (parent_at ds at) i) (slice_index heats at) 0 =
-    one-child ds (slice_index heats) new at i inside (λ c low. get_or-set_other heats above c more 0 (λ same. let none : ⊥ = omega (arith, same, low, up) in none)) in
+    one-child ds (slice_index heats) new at i inside
+    (λ c low. get_or-set_other heats above c more 0 (λ same. let none : ⊥ = omega (arith, same, low, up) in none)) in
     let old : ℕ = of_children ds (slice_index heats) (at + 1) i in
     ⊎_elim (λ (same : i ≡ above).
     let there : new i ≡ more = ap new same ∙ get_or-set_same heats above more 0 (omega (arith, size, inside, up)) in
     let whole : heat_at ds i + of_children ds new at i ≡ heat_at ds i + old + slice_index heats at =
     omega (arith, children, ap (λ (b : Bool). cond b (slice_index heats at) 0) (eq-eqb (parent_at ds at) i (sym parent ∙ sym same))) in
-    let had : IsCappedSum (slice_index heats above) (heat_at ds i + old) = subst (λ (k : ℕ). IsCappedSum (slice_index heats k) (heat_at ds i + old)) same (before i l) in
+    let had : IsCappedSum (slice_index heats above) (heat_at ds i + old) =
+    subst (λ (k : ℕ). IsCappedSum (slice_index heats k) (heat_at ds i + old)) same (before i l) in
     subst (λ (x : ℕ). IsCappedSum (new i) x) (sym whole)
     (subst (λ (x : ℕ). IsCappedSum x (heat_at ds i + old + slice_index heats at)) (sym there)
     (capped-more (slice_index heats above) more (heat_at ds i + old) (slice_index heats at) had sum)))
@@ -105,12 +109,14 @@ stays-above ds i stay = record {
 
 -- what was marked before stays, and so does what is marked now
 pub marked-needed : (ds : List Directory) (stays : List Bool) (at above : ℕ) → at < length stays → above < length (set stays at true) → above ≡ parent_at ds at
-    → HasToStay ds at → ((i : ℕ) → is_marked stays i ≡ true → HasToStay ds i) → (i : ℕ) → is_marked (set (set stays at true) above true) i ≡ true → HasToStay ds i
+    → HasToStay ds at → ((i : ℕ) → is_marked stays i ≡ true → HasToStay ds i) → (i : ℕ)
+    → is_marked (set (set stays at true) above true) i ≡ true → HasToStay ds i
 marked-needed ds stays at above first second parent here before i is =
     ⊎_elim (λ (up : i ≡ above). subst (HasToStay ds) (sym parent ∙ sym up) (stays-above ds at here))
     (λ (other : i ≢ above).
     ⊎_elim (λ (same : i ≡ at). subst (HasToStay ds) (sym same) here)
-    (λ (away : i ≢ at). before i (sym (get_or-set_other stays at i true false away) ∙ (sym (get_or-set_other (set stays at true) above i true false other) ∙ is)))
+    (λ (away : i ≢ at). before i (sym (get_or-set_other stays at i true false away)
+    ∙ (sym (get_or-set_other (set stays at true) above i true false other) ∙ is)))
     (cases_eq i at))
     (cases_eq i above)
 
@@ -136,7 +142,8 @@ coldest-gone ds heats stays marks last size is needed marked = record {
       let past : is_at_most (key_at heats j) last ≡ false =
       ⊎_elim (λ (at_most : is_at_most (key_at heats j) last ≡ true).
       absurd (both_ways (is_marked marks j)
-      kept (marked j (subst (λ (n : ℕ). j < n) (sym size) lj) ∙ and_from (not (is_marked stays j)) (is_at_most (key_at heats j) last) (not_from_false (is_marked stays j) plain) at_most)))
+      kept (marked j (subst (λ (n : ℕ). j < n) (sym size) lj)
+      ∙ and_from (not (is_marked stays j)) (is_at_most (key_at heats j) last) (not_from_false (is_marked stays j) plain) at_most)))
       (λ (no : is_at_most (key_at heats j) last ≡ false). no)
       (cases_Bool (is_at_most (key_at heats j) last)) in
       let hot : last.heat ≤ slice_index heats j = no-colder heats last j past in
@@ -161,7 +168,8 @@ rise-more ds heats at above sum inside is up had child before i some low l =
     let stays : slice_index (set heats above sum) i ≡ slice_index heats i = get_or-set_other heats above i sum 0 apart in
     let rose : slice_index heats i ≤ slice_index (set heats above sum) (parent_at ds i) =
     ⊎_elim (λ (same : i ≡ at).
-    let parent : slice_index (set heats above sum) (parent_at ds i) ≡ sum = ap (slice_index (set heats above sum)) (ap (parent_at ds) same ∙ sym is) ∙ get_or-set_same heats above sum 0 inside in
+    let parent : slice_index (set heats above sum) (parent_at ds i)
+    ≡ sum = ap (slice_index (set heats above sum)) (ap (parent_at ds) same ∙ sym is) ∙ get_or-set_same heats above sum 0 inside in
     subst (λ (s : ℕ). slice_index heats i ≤ s) (sym parent) (subst (λ (k : ℕ). slice_index heats k ≤ sum) (sym same) child))
     (λ (other : i ≢ at).
     let later : at + 1 ≤ i = omega (arith, low, other) in

@@ -1,5 +1,6 @@
 -- Which directories go: keys, and how many are at most one of them.
-use Rattle.std.proofs.Common.{◌≡◌, ◌≢◌, ◌∙◌, ℕ, zero, suc, ◌+◌, ◌-◌, ◌<◌, ◌≤◌, Bool, true, false, not, ◌&&◌, cond, List, [], ◌∷◌, ◌++◌, add_assoc, add-zero, length, get_or, set, slice_index, refl, ap, sym, subst, ⊎_elim, arith}
+use Rattle.std.proofs.Common.{◌≡◌, ◌≢◌, ◌∙◌, ℕ, zero, suc, ◌+◌, ◌-◌, ◌<◌, ◌≤◌, Bool, true, false, not, ◌&&◌, cond}
+use Rattle.std.proofs.Common.{List, [], ◌∷◌, ◌++◌, add_assoc, add-zero, length, get_or, set, slice_index, refl, ap, sym, subst, ⊎_elim, arith}
 use Rattle.std.specs.Cmp.{IsTotalOrder}
 use Rattle.std.proofs.Math.Nat.{lt_trans}
 use Rattle.std.proofs.lemmas.Grind.{common_steps}
@@ -61,11 +62,13 @@ enough keys sorted count last some inside moved up is =
     let within : count ≤ length sorted = omega (arith, inside, long) in
     let first : sum_below count (λ i. 1) ≤ sum_below count (λ i. f (get_or sorted i last)) = sum_below-le count (λ i. 1) (λ i. f (get_or sorted i last)) (λ i l.
     let behind : is_lt (key_cmp (get_or sorted (count - 1) last) (get_or sorted i last)) ≡ false =
-    sorted_far (λ a b. is_lt (key_cmp a b)) (ranks_by key_total (λ (key : Key). key)) sorted up i (count - 1) last (omega (arith, l)) (omega (arith, some, within)) in
+    sorted_far (λ a b. is_lt (key_cmp a b)) (ranks_by key_total (λ (key : Key). key)) sorted up i (count - 1) last (omega (arith, l))
+    (omega (arith, some, within)) in
     let yes : is_at_most (get_or sorted i last) last ≡ true =
     ap (is_at_most (get_or sorted i last)) is ∙ at_most (get_or sorted i last) (get_or sorted (count - 1) last) behind in
     rw yes (omega arith)) in
-    let more : sum_below count (λ i. f (get_or sorted i last)) ≤ sum_below (length sorted) (λ i. f (get_or sorted i last)) = sum_below-fewer count (length sorted) (λ i. f (get_or sorted i last)) within in
+    let more : sum_below count (λ i. f (get_or sorted i last)) ≤ sum_below (length sorted) (λ i. f (get_or sorted i last)) =
+    sum_below-fewer count (length sorted) (λ i. f (get_or sorted i last)) within in
     let whole : sum_below (length sorted) (λ i. f (get_or sorted i last)) ≡ count_by (λ key. is_at_most key last) keys =
     sym (sum_keys f last sorted) ∙ sum_by-IsPermutation f keys sorted moved in
     omega (arith, ones count, first, more, whole)
@@ -74,7 +77,12 @@ enough keys sorted count last some inside moved up is =
 none_of : (n : ℕ) (f : ℕ → ℕ) (m : ℕ) → ((i : ℕ) → i < n → f i ≤ 1) → ((i : ℕ) → m ≤ i → i < n → f i ≡ 0) → sum_below n f ≤ m
 none_of zero f m one none = omega arith
 none_of (suc n) f m one none =
-    ⊎_elim (λ (low : n < m). omega (arith, none_of n f n (λ i l. one i (omega (arith, l))) (λ i past l. let no : ⊥ = omega (arith, past, l) in absurd no), one n (omega arith), low))
+    ⊎_elim (λ (low : n < m). omega (
+      arith,
+      none_of n f n (λ i l. one i (omega (arith, l))) (λ i past l. let no : ⊥ = omega (arith, past, l) in absurd no),
+      one n (omega arith),
+      low,
+    ))
     (λ (high : m ≤ n). omega (arith, none_of n f m (λ i l. one i (omega (arith, l))) (λ i past l. none i past (omega (arith, l))), none n high (omega arith)))
     (cases_lt n m)
 
@@ -111,9 +119,17 @@ one-more heats stays last =
     let d : ℕ → ℕ = λ i. cond (is_at_most (key_at heats i) last && not (is_below (key_at heats i) last)) 1 0 in
     let once : sum_below n d ≤ 1 = sum_below-once n 1 d (λ i l. at_most_one (is_at_most (key_at heats i) last && not (is_below (key_at heats i) last)))
     (λ i j li lj hi hj.
-    let a = and_parts (is_at_most (key_at heats i) last) (not (is_below (key_at heats i) last)) (counts (is_at_most (key_at heats i) last && not (is_below (key_at heats i) last)) hi) in
-    let b = and_parts (is_at_most (key_at heats j) last) (not (is_below (key_at heats j) last)) (counts (is_at_most (key_at heats j) last && not (is_below (key_at heats j) last)) hj) in
-    omega (arith, li, lj, same_key heats last i a.0 (not-true (is_below (key_at heats i) last) a.1), same_key heats last j b.0 (not-true (is_below (key_at heats j) last) b.1))) in
+    let a = and_parts (is_at_most (key_at heats i) last) (not (is_below (key_at heats i) last))
+    (counts (is_at_most (key_at heats i) last && not (is_below (key_at heats i) last)) hi) in
+    let b = and_parts (is_at_most (key_at heats j) last) (not (is_below (key_at heats j) last))
+    (counts (is_at_most (key_at heats j) last && not (is_below (key_at heats j) last)) hj) in
+    omega (
+      arith,
+      li,
+      lj,
+      same_key heats last i a.0 (not-true (is_below (key_at heats i) last) a.1),
+      same_key heats last j b.0 (not-true (is_below (key_at heats j) last) b.1),
+    )) in
     let sums : sum_below n (λ i. cond (goes heats stays last i) 1 0) ≤ sum_below n (λ i. cond (passes heats stays (λ key. is_below key last) i) 1 0 + d i) =
     sum_below-le n (λ i. cond (goes heats stays last i) 1 0) (λ i. cond (passes heats stays (λ key. is_below key last) i) 1 0 + d i)
     (λ i l. either (not (is_marked stays i)) (is_at_most (key_at heats i) last) (is_below (key_at heats i) last)) in
@@ -186,14 +202,17 @@ marked_plain ds stays at above inside up plain i low l unset =
     (λ (other : i ≢ at). plain i (omega (arith, low, other)) l (unset_before stays at i inside once))
     (cases_eq i at)
 
-pub marked_above : (ds : List Directory) (stays : List Bool) (at above : ℕ) → at < length stays → above < length (set stays at true) → above ≡ parent_at ds at → above ≤ at
+pub marked_above : (ds : List Directory) (stays : List Bool) (at above : ℕ) → at < length stays → above < length (set stays at true)
+    → above ≡ parent_at ds at → above ≤ at
     → ((i : ℕ) → 0 < i → at + 1 ≤ i → i < length ds → is_marked stays i ≡ true → is_marked stays (parent_at ds i) ≡ true)
-    → (i : ℕ) → 0 < i → at ≤ i → i < length ds → is_marked (set (set stays at true) above true) i ≡ true → is_marked (set (set stays at true) above true) (parent_at ds i) ≡ true
+    → (i : ℕ) → 0 < i → at ≤ i → i < length ds → is_marked (set (set stays at true) above true) i ≡ true
+    → is_marked (set (set stays at true) above true) (parent_at ds i) ≡ true
 marked_above ds stays at above inside up is before marked i some low l set_now =
     ⊎_elim (λ (same : i ≡ at). set_here (set stays at true) above (parent_at ds i) up (ap (parent_at ds) same ∙ sym is))
     (λ (other : i ≢ at).
     let past : i ≢ above = λ same. let none : ⊥ = omega (arith, same, before, low, other) in none in
-    let old : is_marked stays i ≡ true = sym (get_or-set_other stays at i true false other) ∙ (sym (get_or-set_other (set stays at true) above i true false past) ∙ set_now) in
+    let old : is_marked stays i ≡ true = sym (get_or-set_other stays at i true false other)
+    ∙ (sym (get_or-set_other (set stays at true) above i true false past) ∙ set_now) in
     still (set stays at true) above (parent_at ds i) up (still stays at (parent_at ds i) inside (marked i some (omega (arith, low, other)) l old)))
     (cases_eq i at)
 
@@ -221,9 +240,11 @@ gone-marked ds heats stays marks last size first plain above rise marked coldest
           plain i l (not-true (is_marked stays i) both.0);
       below = λ i some l gone.
           let up : parent_at ds i < i = first.above i some l in
-          let both = and_parts (not (is_marked stays (parent_at ds i))) (is_at_most (key_at heats (parent_at ds i)) last) (sym (marked (parent_at ds i) (within (parent_at ds i) (lt_trans up l))) ∙ gone) in
+          let both = and_parts (not (is_marked stays (parent_at ds i))) (is_at_most (key_at heats (parent_at ds i)) last)
+          (sym (marked (parent_at ds i) (within (parent_at ds i) (lt_trans up l))) ∙ gone) in
           let free : is_marked stays i ≡ false =
-          ⊎_elim (λ (stay : is_marked stays i ≡ true). apart (is_marked stays (parent_at ds i)) (above i some l stay) (not-true (is_marked stays (parent_at ds i)) both.0))
+          ⊎_elim (λ (stay : is_marked stays i ≡ true). apart (is_marked stays (parent_at ds i)) (above i some l stay)
+          (not-true (is_marked stays (parent_at ds i)) both.0))
           (λ (free : is_marked stays i ≡ false). free)
           (cases_Bool (is_marked stays i)) in
           marked i (within i l)

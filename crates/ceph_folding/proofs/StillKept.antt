@@ -31,19 +31,24 @@ root-stays ds gone are some =
     (λ (stays : gone 0 ≡ false). stays)
     (cases_Bool (gone 0))
 
-path-same : (o : Option Directory) (p h w m : ℕ) → option_map_or (λ (d : Directory). d.path.items) (option_map (with_amounts p h w m) o) [] ≡ option_map_or (λ (d : Directory). d.path.items) o []
+path-same : (o : Option Directory) (p h w m : ℕ) → option_map_or (λ (d : Directory). d.path.items) (option_map (with_amounts p h w m) o) []
+    ≡ option_map_or (λ (d : Directory). d.path.items) o []
 path-same None p h w m = refl
 path-same (Some d) p h w m = refl
 
-policy-same : (o : Option Directory) (p h w m : ℕ) → option_map_or (λ (d : Directory). d.policy) (option_map (with_amounts p h w m) o) None ≡ option_map_or (λ (d : Directory). d.policy) o None
+policy-same : (o : Option Directory) (p h w m : ℕ)
+    → option_map_or (λ (d : Directory). d.policy) (option_map (with_amounts p h w m) o) None
+    ≡ option_map_or (λ (d : Directory). d.policy) o None
 policy-same None p h w m = refl
 policy-same (Some d) p h w m = refl
 
-doubt-same : (o : Option Directory) (p h w m : ℕ) → option_map_or (λ (d : Directory). d.is_doubtful) (option_map (with_amounts p h w m) o) false ≡ option_map_or (λ (d : Directory). d.is_doubtful) o false
+doubt-same : (o : Option Directory) (p h w m : ℕ) → option_map_or (λ (d : Directory). d.is_doubtful) (option_map (with_amounts p h w m) o)
+    false ≡ option_map_or (λ (d : Directory). d.is_doubtful) o false
 doubt-same None p h w m = refl
 doubt-same (Some d) p h w m = refl
 
-kept-same : (o : Option Directory) (p h w m : ℕ) → option_map_or (λ (d : Directory). d.is_kept) (option_map (with_amounts p h w m) o) false ≡ option_map_or (λ (d : Directory). d.is_kept) o false
+kept-same : (o : Option Directory) (p h w m : ℕ) → option_map_or (λ (d : Directory). d.is_kept) (option_map (with_amounts p h w m) o) false
+    ≡ option_map_or (λ (d : Directory). d.is_kept) o false
 kept-same None p h w m = refl
 kept-same (Some d) p h w m = refl
 

@@ -21,7 +21,8 @@ pub applied_next : (own : ℕ → Option ℕ) (changes : List PinChange) (n : �
 applied_next own changes n d i inside =
     ap (λ (those : List PinChange). applied own those i) (take_more changes n d inside) ∙ applied_more own (take n changes) (get_or changes n d) i
 
-inverted_more : (rows : List PinRow) (change : PinChange) (changes : List PinChange) → inverted rows (change ∷ changes) ≡ inverted rows changes ++ restored rows change ∷ []
+inverted_more : (rows : List PinRow) (change : PinChange) (changes : List PinChange)
+    → inverted rows (change ∷ changes) ≡ inverted rows changes ++ restored rows change ∷ []
 inverted_more rows change changes = reverse_onto (map (restored rows) changes) (restored rows change) []
 
 -- what undoes a change and then others
@@ -30,14 +31,16 @@ last : (rows : List PinRow) (own : ℕ → Option ℕ) (change : PinChange) (cha
 last rows own change changes i =
     ap (λ (those : List PinChange). applied own those i) (inverted_more rows change changes) ∙ applied_more own (inverted rows changes) (restored rows change) i
 
-hits : (rows : List PinRow) (own : ℕ → Option ℕ) (change : PinChange) (i : ℕ) → (change.row == i) ≡ true → changed own (restored rows change) i ≡ before_pin rows i
+hits : (rows : List PinRow) (own : ℕ → Option ℕ) (change : PinChange) (i : ℕ) → (change.row == i) ≡ true
+    → changed own (restored rows change) i ≡ before_pin rows i
 hits rows own change i is = rw is (ap (before_pin rows) (eqb-true change.row i is))
 
 misses : (own : ℕ → Option ℕ) (change : PinChange) (i : ℕ) → (change.row == i) ≡ false → changed own change i ≡ own i
 misses own change i is = rw is refl
 
 -- a row that has its old pin keeps it
-stays : (rows : List PinRow) (own : ℕ → Option ℕ) (changes : List PinChange) (i : ℕ) → own i ≡ before_pin rows i → applied own (inverted rows changes) i ≡ before_pin rows i
+stays : (rows : List PinRow) (own : ℕ → Option ℕ) (changes : List PinChange) (i : ℕ) → own i ≡ before_pin rows i
+    → applied own (inverted rows changes) i ≡ before_pin rows i
 stays rows own [] i same = same
 stays rows own (change ∷ changes) i same =
     last rows own change changes i
@@ -46,7 +49,8 @@ stays rows own (change ∷ changes) i same =
     (cases_Bool (change.row == i))
 
 -- a row that was changed gets its old pin
-returns : (rows : List PinRow) (own : ℕ → Option ℕ) (changes : List PinChange) (i : ℕ) → is_changed changes i ≡ true → applied own (inverted rows changes) i ≡ before_pin rows i
+returns : (rows : List PinRow) (own : ℕ → Option ℕ) (changes : List PinChange) (i : ℕ) → is_changed changes i ≡ true
+    → applied own (inverted rows changes) i ≡ before_pin rows i
 returns rows own [] i some = absurd (both_ways false refl some)
 returns rows own (change ∷ changes) i some =
     last rows own change changes i

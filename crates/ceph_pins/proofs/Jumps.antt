@@ -1,5 +1,6 @@
 -- The jumps of the consistent hash lead to higher and higher ranks.
-use Rattle.std.proofs.Common.{◌≡◌, add-one, add-zero, add-suc, le_refl, refl, ◌+◌, ◌-◌, ◌*◌, ◌/◌, ◌%◌, ◌^◌, ◌<◌, ◌≤◌, ℕ, zero, suc, cond, nat_lt, ⊎_elim, arith, le_trans}
+use Rattle.std.proofs.Common.{◌≡◌, add-one, add-zero, add-suc, le_refl, refl, ◌+◌, ◌-◌, ◌*◌, ◌/◌, ◌%◌}
+use Rattle.std.proofs.Common.{◌^◌, ◌<◌, ◌≤◌, ℕ, zero, suc, cond, nat_lt, ⊎_elim, arith, le_trans}
 use Rattle.std.proofs.lemmas.Bool.{cases_lt}
 use Rattle.std.proofs.lemmas.Grind.{common_steps}
 use Rattle.std.proofs.lemmas.Nat.{le-div}
@@ -36,7 +37,8 @@ rises_to hash n (suc more) = rw add-suc (omega (arith, rises hash (n + more), ri
 no_lower : (hash n i : ℕ) → n ≤ i → rank_after_jumps hash n ≤ rank_after_jumps hash i
 no_lower hash n i up = let e : n + (i - n) ≡ i = omega arith in rw e at (rises_to hash n (i - n))
 
-pub last_jump : (hash size n : ℕ) → n < size → rank_after_jumps hash n < size → size ≤ rank_after_jumps hash (n + 1) → jump_rank hash size ≡ rank_after_jumps hash n
+pub last_jump : (hash size n : ℕ) → n < size → rank_after_jumps hash n < size → size ≤ rank_after_jumps hash (n + 1)
+    → jump_rank hash size ≡ rank_after_jumps hash n
 unfolding jump_rank
 last_jump hash size n inside below past =
     let f : ℕ → ℕ = λ i. cond (nat_lt (rank_after_jumps hash i) size) (rank_after_jumps hash i) 0 in

@@ -1,5 +1,6 @@
 -- Paths that lie in one another, and lists of them.
-use Rattle.std.proofs.Common.{◌≡◌, ◌≢◌, ◌∙◌, ◌<◌, ◌≤◌, ◌+◌, ◌++◌, ℕ, IsTrue, List, [], ◌∷◌, Option, Some, ap, arith, inr, length, nat_eq, slice_index_or, subst, sym, ⊎_elim}
+use Rattle.std.proofs.Common.{◌≡◌, ◌≢◌, ◌∙◌, ◌<◌, ◌≤◌, ◌+◌, ◌++◌, ℕ, IsTrue, List, [], ◌∷◌}
+use Rattle.std.proofs.Common.{Option, Some, ap, arith, inr, length, nat_eq, slice_index_or, subst, sym, ⊎_elim}
 use Rattle.std.specs.Global.{Global}
 use Rattle.std.specs.Prelude.{Vec}
 use Rattle.std.specs.List.{slice_get}

@@ -1,5 +1,6 @@
 -- Texts that grow line by line.
-use Rattle.std.proofs.Common.{◌≡◌, ◌∙◌, ◌==◌, ◌<◌, ◌+◌, ℕ, Bool, zero, suc, false, true, List, [], ◌∷◌, ◌++◌, Option, get_or, length, take, slice_get, refl, ap, sym, arith}
+use Rattle.std.proofs.Common.{◌≡◌, ◌∙◌, ◌==◌, ◌<◌, ◌+◌, ℕ, Bool, zero, suc, false, true, List}
+use Rattle.std.proofs.Common.{[], ◌∷◌, ◌++◌, Option, get_or, length, take, slice_get, refl, ap, sym, arith}
 use Rattle.std.specs.Prelude.{if◌then◌else◌}
 use Rattle.std.specs.List.{flat_map}
 use Rattle.std.proofs.lemmas.Bool.{both_ways}
@@ -22,7 +23,8 @@ more_lines {A} f old before after xs i d inside before_is after_is =
 
 -- the script of some changes
 pub script_of : (mount name fsid : List ℕ) (by_ceph : Bool) (directories : List Directory) (changes : List PinChange) → (length changes == 0) ≡ false
-    → HEAD.now ++ variable_lines mount name fsid ++ (if needs_mount by_ceph directories changes then CHECKS.now else []) ++ (if needs_ceph by_ceph directories changes then CEPH.now else [])
+    → HEAD.now ++ variable_lines mount name fsid ++ (if needs_mount by_ceph directories changes then CHECKS.now else [])
+    ++ (if needs_ceph by_ceph directories changes then CEPH.now else [])
     ++ flat_map (change_line mount by_ceph directories) changes ++ FOOT.now
     ≡ pins_script mount name fsid by_ceph directories changes
 script_of mount name fsid by_ceph directories [] some = absurd (both_ways true some refl)
@@ -33,7 +35,8 @@ pub place_no_nul : (mount path place : List ℕ) → place ≡ mount ++ path →
 place_no_nul mount path place is fine others = rw is (All-append (λ byte. 0 < byte) mount path fine others)
 
 -- the lines of the same pins
-pub own_lines_same : (directories : List Directory) (f g : ℕ → Option ℕ) (n : ℕ) → ((i : ℕ) → i < n → f i ≡ g i) → own_lines directories f n ≡ own_lines directories g n
+pub own_lines_same : (directories : List Directory) (f g : ℕ → Option ℕ) (n : ℕ) → ((i : ℕ) → i < n → f i ≡ g i)
+    → own_lines directories f n ≡ own_lines directories g n
 own_lines_same directories f g zero same = refl
 own_lines_same directories f g (suc n) same =
     ap (λ (pin : Option ℕ). pin_line_of pin (slice_get directories n) ++ own_lines directories f n) (same n (omega arith))

@@ -1,5 +1,6 @@
 -- What one more directory adds to the sums.
-use Rattle.std.proofs.Common.{◌≡◌, ◌∙◌, ◌+◌, ◌-◌, ◌^◌, ◌<◌, ◌≤◌, ◌&&◌, ℕ, suc, Bool, true, false, cond, nat_lt, List, length, min, slice_index, add-one, add-zero, ap, arith, refl, sym}
+use Rattle.std.proofs.Common.{◌≡◌, ◌∙◌, ◌+◌, ◌-◌, ◌^◌, ◌<◌, ◌≤◌, ◌&&◌, ℕ, suc, Bool, true, false}
+use Rattle.std.proofs.Common.{cond, nat_lt, List, length, min, slice_index, add-one, add-zero, ap, arith, refl, sym}
 use Rattle.std.proofs.lemmas.Bool.{le-ltb}
 use Rattle.mds_types.specs.Sums.{sum_below}
 use Rattle.mds_types.proofs.SumsLemmas.{count_below-le, sum_below-split, sum_from, sum_from-same}

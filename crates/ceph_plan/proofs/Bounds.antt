@@ -1,12 +1,14 @@
 -- Why no assignment gets below the bound.
-use Rattle.std.proofs.Common.{◌≡◌, ◌≢◌, ◌∙◌, ℕ, zero, suc, ◌+◌, ◌*◌, ◌/◌, ◌%◌, ◌<◌, ◌≤◌, min, max, List, length, get_or, set, slice_index, Bool, true, false, cond, eqb, ◌⊎◌, inl, inr, ⊎_elim, refl, ap, sym, arith}
+use Rattle.std.proofs.Common.{◌≡◌, ◌≢◌, ◌∙◌, ℕ, zero, suc, ◌+◌, ◌*◌, ◌/◌, ◌%◌, ◌<◌, ◌≤◌, min, max, List, length}
+use Rattle.std.proofs.Common.{get_or, set, slice_index, Bool, true, false, cond, eqb, ◌⊎◌, inl, inr, ⊎_elim, refl, ap, sym, arith}
 use Rattle.std.proofs.lemmas.Bool.{cases_Bool, cases_eq, cases_lt, and_parts, both_ways, eq-eqb, ltb-true, ne_eqb}
 use Rattle.std.proofs.lemmas.Grind.{div_ceil_times}
 use Rattle.std.proofs.lemmas.List.{get_or-set_other, get_or-set_same}
 use Rattle.std.proofs.Math.Nat.{mul-le-mul_left, mul_comm}
 use Rattle.mds_types.specs.RankSet.{has_rank, rank_count}
 use Rattle.mds_types.specs.Sums.{count_below, max_below, sum_below}
-use Rattle.mds_types.proofs.SumsLemmas.{max_below-le, max_below-term, sum_below-add, sum_below-pick, sum_below-same, sum_below-swap, sum_below-term, sum_below-zero}
+use Rattle.mds_types.proofs.SumsLemmas.{max_below-le, max_below-term, sum_below-add, sum_below-pick}
+use Rattle.mds_types.proofs.SumsLemmas.{sum_below-same, sum_below-swap, sum_below-term, sum_below-zero}
 use Rattle.ceph_plan.specs.Packing.{IsAsGreat, IsBoundOf, greatest_of, total_of}
 
 -- all numbers below 64 are seen
@@ -61,7 +63,8 @@ unfolding rank_count
 count-positive ranks is = positive 64 (has_rank ranks) (omega arith) is
 
 -- each row is at one rank
-spread : (m n : ℕ) (has : ℕ → Bool) (to h : ℕ → ℕ) → ((i : ℕ) → i < n → has (to i) ≡ true) → ((i : ℕ) → i < n → to i < m) → sum_below m (λ r. cond (has r) (sum_below n (λ i. cond (eqb (to i) r) (h i) 0)) 0) ≡ sum_below n h
+spread : (m n : ℕ) (has : ℕ → Bool) (to h : ℕ → ℕ) → ((i : ℕ) → i < n → has (to i) ≡ true) → ((i : ℕ) → i < n → to i < m)
+    → sum_below m (λ r. cond (has r) (sum_below n (λ i. cond (eqb (to i) r) (h i) 0)) 0) ≡ sum_below n h
 spread m n has to h usable small =
     sum_below-same m (λ r. cond (has r) (sum_below n (λ i. cond (eqb (to i) r) (h i) 0)) 0) (λ r. sum_below n (λ i. cond (eqb (to i) r) (h i) 0)) (λ r l.
     ⊎_elim (λ (is : has r ≡ true). rw is refl)
@@ -75,9 +78,12 @@ split_add : (b : Bool) (x y : ℕ) → cond b (x + y) 0 ≡ cond b x 0 + cond b 
 split_add true x y = refl
 split_add false x y = omega arith
 
-pub totals : (m n : ℕ) (has : ℕ → Bool) (pinned to h : ℕ → ℕ) → ((i : ℕ) → i < n → has (to i) ≡ true) → ((i : ℕ) → i < n → to i < m) → sum_below m (λ r. cond (has r) (pinned r + sum_below n (λ i. cond (eqb (to i) r) (h i) 0)) 0) ≡ sum_below m (λ r. cond (has r) (pinned r) 0) + sum_below n h
+pub totals : (m n : ℕ) (has : ℕ → Bool) (pinned to h : ℕ → ℕ) → ((i : ℕ) → i < n → has (to i) ≡ true) → ((i : ℕ) → i < n → to i < m)
+    → sum_below m (λ r. cond (has r) (pinned r + sum_below n (λ i. cond (eqb (to i) r) (h i) 0)) 0)
+    ≡ sum_below m (λ r. cond (has r) (pinned r) 0) + sum_below n h
 totals m n has pinned to h usable small =
-    sum_below-same m (λ r. cond (has r) (pinned r + sum_below n (λ i. cond (eqb (to i) r) (h i) 0)) 0) (λ r. cond (has r) (pinned r) 0 + cond (has r) (sum_below n (λ i. cond (eqb (to i) r) (h i) 0)) 0) (λ r l.
+    sum_below-same m (λ r. cond (has r) (pinned r + sum_below n (λ i. cond (eqb (to i) r) (h i) 0)) 0)
+    (λ r. cond (has r) (pinned r) 0 + cond (has r) (sum_below n (λ i. cond (eqb (to i) r) (h i) 0)) 0) (λ r l.
     split_add (has r) (pinned r) (sum_below n (λ i. cond (eqb (to i) r) (h i) 0)))
     ∙ (sum_below-add m (λ r. cond (has r) (pinned r) 0) (λ r. cond (has r) (sum_below n (λ i. cond (eqb (to i) r) (h i) 0)) 0)
     ∙ ap (λ (x : ℕ). sum_below m (λ r. cond (has r) (pinned r) 0) + x) (spread m n has to h usable small))
@@ -143,7 +149,8 @@ lower ranks pinned n heat all hottest mean least zero_in all_is hottest_is mean_
           let there : heat some.0 ≤ sum_below n (λ i. cond (eqb (to i) (to some.0)) (heat i) 0) = heat-there n some.0 (to some.0) to heat some.1 refl in
           omega (arith, some.2, hottest_is, least_is (to some.0) has, each (to some.0) has, there)
     ] in
-    let third : greatest_of ranks (slice_index pinned) ≤ g = greatest-le ranks g (slice_index pinned) (λ r has. let e : load r ≤ g = each r has in omega (arith, e)) in
+    let third : greatest_of ranks (slice_index pinned) ≤ g =
+    greatest-le ranks g (slice_index pinned) (λ r has. let e : load r ≤ g = each r has in omega (arith, e)) in
     omega (arith, first, second, third)
 
 -- the greatest is that of what is alike at the ranks of the set
@@ -156,7 +163,8 @@ greatest-same ranks f h same =
     omega (arith, down, up)
 
 -- one more part has a rank of the set
-pub set_usable : (ranks n k v : ℕ) (xs : List ℕ) → length xs ≡ n → ((p : ℕ) → p < n → has_rank ranks (get_or xs p 0) ≡ true) → has_rank ranks v ≡ true → (p : ℕ) → p < n → has_rank ranks (get_or (set xs k v) p 0) ≡ true
+pub set_usable : (ranks n k v : ℕ) (xs : List ℕ) → length xs ≡ n → ((p : ℕ) → p < n → has_rank ranks (get_or xs p 0) ≡ true)
+    → has_rank ranks v ≡ true → (p : ℕ) → p < n → has_rank ranks (get_or (set xs k v) p 0) ≡ true
 set_usable ranks n k v xs size before here p l =
     ⊎_elim (λ (same : p ≡ k). rw (same, get_or-set_same xs k v 0 (omega (arith, size, l, same))) here)
     (λ (other : p ≢ k). rw (get_or-set_other xs k p v 0 other) (before p l))
@@ -173,7 +181,8 @@ as_great ranks pinned n heat all hottest mean least bound zero_in all_is hottest
     let sum : ℕ = all + total_of ranks (slice_index pinned) in
     let ceil : sum ≤ mean * rank_count ranks = rw mean_is (div_ceil_times sum (rank_count ranks) (count-positive ranks zero_in)).0 in
     let le : mean ≤ bound = omega (arith, is) in
-    let times : mean * rank_count ranks ≤ bound * rank_count ranks = rw (mul_comm mean (rank_count ranks), mul_comm bound (rank_count ranks)) (mul-le-mul_left (rank_count ranks) le) in
+    let times : mean * rank_count ranks ≤ bound * rank_count ranks =
+    rw (mul_comm mean (rank_count ranks), mul_comm bound (rank_count ranks)) (mul-le-mul_left (rank_count ranks) le) in
     record {
       mean = omega (arith, ceil, times, all_is);
       least = (one.0, one.1, λ i l. omega (arith, is, one.2, hottest_is, max_below-term n i heat l));
@@ -189,7 +198,8 @@ pub record IsLeastBelow (ranks : ℕ) (numbers : List ℕ) (n so_far : ℕ) : Ty
   pub least : (r : ℕ) → r < n → has_rank ranks r ≡ true → so_far ≤ slice_index numbers r
   pub one : (r : ℕ) × (has_rank ranks r ≡ true) × (slice_index numbers r ≡ so_far)
 
-pub least_more : (ranks : ℕ) (numbers : List ℕ) (n old new : ℕ) → IsLeastBelow ranks numbers n old → has_rank ranks n ≡ true → new ≡ min (slice_index numbers n) old → IsLeastBelow ranks numbers (n + 1) new
+pub least_more : (ranks : ℕ) (numbers : List ℕ) (n old new : ℕ) → IsLeastBelow ranks numbers n old → has_rank ranks n ≡ true
+    → new ≡ min (slice_index numbers n) old → IsLeastBelow ranks numbers (n + 1) new
 least_more ranks numbers n old new so_far has is = record {
   least = λ r l has_r.
       ⊎_elim (λ (same : r ≡ n). rw same (omega (arith, is)))
@@ -201,7 +211,8 @@ least_more ranks numbers n old new so_far has is = record {
       (cases_lt (slice_index numbers n) old);
 }
 
-pub least_passed : (ranks : ℕ) (numbers : List ℕ) (n old new : ℕ) → IsLeastBelow ranks numbers n old → has_rank ranks n ≡ false → new ≡ old → IsLeastBelow ranks numbers (n + 1) new
+pub least_passed : (ranks : ℕ) (numbers : List ℕ) (n old new : ℕ) → IsLeastBelow ranks numbers n old → has_rank ranks n ≡ false → new ≡ old
+    → IsLeastBelow ranks numbers (n + 1) new
 least_passed ranks numbers n old new so_far has is = record {
   least = λ r l has_r.
       ⊎_elim (λ (same : r ≡ n). absurd (both_ways (has_rank ranks n) has (ap (has_rank ranks) (sym same) ∙ has_r)))

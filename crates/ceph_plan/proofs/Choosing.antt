@@ -1,5 +1,6 @@
 -- Which hours are chosen: which may be, which comes next, and one more of them.
-use Rattle.std.proofs.Common.{◌≡◌, ◌≢◌, ◌∙◌, ◌⊎◌, ◌↔◌, ◌+◌, ◌*◌, ◌<◌, ◌≤◌, ◌++◌, ◌∷◌, [], ℕ, Bool, true, false, List, ap, arith, cond, get_or, inl, inr, length, length-append, nat_lt, refl, replicate, slice_index, subst, sym, take, ⊎_elim}
+use Rattle.std.proofs.Common.{◌≡◌, ◌≢◌, ◌∙◌, ◌⊎◌, ◌↔◌, ◌+◌, ◌*◌, ◌<◌, ◌≤◌, ◌++◌, ◌∷◌, [], ℕ, Bool, true, false, List}
+use Rattle.std.proofs.Common.{ap, arith, cond, get_or, inl, inr, length, length-append, nat_lt, refl, replicate, slice_index, subst, sym, take, ⊎_elim}
 use Rattle.std.proofs.lemmas.Bool.{both_ways, cases_eq, cases_lt}
 use Rattle.std.proofs.lemmas.List.{get_or-replicate, take-append-le, take_all}
 use Rattle.std.proofs.lemmas.Nat.{mul-le}
@@ -12,7 +13,8 @@ use Rattle.ceph_plan.specs.declared.choice.Wanted.{Wanted}
 use Rattle.ceph_plan.specs.declared.for_hours.HoursProposal.{HoursProposal}
 use Rattle.ceph_plan.specs.declared.hours.Hour.{Hour}
 use Rattle.ceph_plan.specs.declared.proposal.OwnPins.{OwnPins}
-use Rattle.ceph_plan.specs.ChosenHours.{AreChosenHours, AreJudged, AreNext, AreMarked, AreThose, CanChoose, HasHour, IsLittle, IsMoreUneven, IsNextToCome, IsNextHour, IsPlanFor, MayBeChosen, MayCome, judged, load_in_hour}
+use Rattle.ceph_plan.specs.ChosenHours.{AreChosenHours, AreJudged, AreNext, AreMarked, AreThose, CanChoose, HasHour, IsLittle}
+use Rattle.ceph_plan.specs.ChosenHours.{IsMoreUneven, IsNextToCome, IsNextHour, IsPlanFor, MayBeChosen, MayCome, judged, load_in_hour}
 use Rattle.ceph_plan.specs.HourPlans.{IsHoursProposal}
 use Rattle.ceph_plan.specs.Packing.{AreLoads, greatest_of, load_in, packed_rank}
 use Rattle.ceph_plan.proofs.Bounds.{greatest-same}
@@ -32,7 +34,8 @@ swap a b y = mul_assoc a b y ∙ (ap (λ (n : ℕ). a * n) (mul_comm b y) ∙ sy
 -- where g isn't more uneven than the best, and h is, g isn't more so than h
 passed : (lg bg best bound lh bh : ℕ) → ¬ (best * bg < lg * bound) → best * bh < lh * bound → ¬ (lh * bg < lg * bh)
 passed lg bg best bound lh bh not more = λ less.
-    let le : lg * bound ≤ best * bg = ⊎_elim (λ (no : best * bg < lg * bound). absurd (not no)) (λ (yes : lg * bound ≤ best * bg). yes) (cases_lt (best * bg) (lg * bound)) in
+    let le : lg * bound ≤ best * bg = ⊎_elim (λ (no : best * bg < lg * bound). absurd (not no)) (λ (yes : lg * bound ≤ best * bg). yes)
+    (cases_lt (best * bg) (lg * bound)) in
     let one : lg * bound * bh ≤ best * bg * bh = mul-le (lg * bound) bh (best * bg) bh le (omega arith) in
     let two : best * bh * bg ≤ lh * bound * bg = mul-le (best * bh) bg (lh * bound) bg (omega (arith, more)) (omega arith) in
     let all : lg * bh * bound ≤ lh * bg * bound = omega (arith, one, two, swap lg bound bh, swap best bg bh, swap lh bound bg) in
@@ -44,9 +47,11 @@ passed lg bg best bound lh bh not more = λ less.
     let none : ⊥ = omega (arith, times, split, all, some) in none)
     (cases_eq bound 0)
 
-module _ (keep : ℕ) (kept : List Bool) (bounds loads chosen : List ℕ) (h best : ℕ) (inside : h < length kept) (old : IsNextBefore keep kept bounds loads chosen h best) where
+module _ (keep : ℕ) (kept : List Bool) (bounds loads chosen : List ℕ) (h best : ℕ) (inside : h < length kept)
+    (old : IsNextBefore keep kept bounds loads chosen h best) where
   -- the next one is better
-  pub next-new : MayCome keep kept bounds loads chosen h → (best ≡ length kept) ⊎ IsMoreUneven bounds loads h best → IsNextBefore keep kept bounds loads chosen (h + 1) h
+  pub next-new : MayCome keep kept bounds loads chosen h → (best ≡ length kept) ⊎ IsMoreUneven bounds loads h best
+      → IsNextBefore keep kept bounds loads chosen (h + 1) h
   next-new comes better = record {
     inside = omega (arith, inside);
     comes = λ l. comes;
@@ -67,7 +72,8 @@ module _ (keep : ℕ) (kept : List Bool) (bounds loads chosen : List ℕ) (h bes
   }
 
   -- the next one isn't
-  pub next-old : (MayCome keep kept bounds loads chosen h → (best < length kept) × ¬ IsMoreUneven bounds loads h best) → IsNextBefore keep kept bounds loads chosen (h + 1) best
+  pub next-old : (MayCome keep kept bounds loads chosen h → (best < length kept) × ¬ IsMoreUneven bounds loads h best)
+      → IsNextBefore keep kept bounds loads chosen (h + 1) best
   next-old never = record {
     inside = old.inside;
     comes = old.comes;
@@ -90,7 +96,8 @@ next-none keep kept bounds loads chosen n all = record {
   none = λ is g lg. absurd (let none : ⊥ = omega (arith, lg) in none);
 }
 
-pub not-before : (bounds loads : List ℕ) (h best n : ℕ) → best ≤ n → ¬ ((best ≡ n) ⊎ IsMoreUneven bounds loads h best) → (best < n) × ¬ IsMoreUneven bounds loads h best
+pub not-before : (bounds loads : List ℕ) (h best n : ℕ) → best ≤ n → ¬ ((best ≡ n) ⊎ IsMoreUneven bounds loads h best)
+    → (best < n) × ¬ IsMoreUneven bounds loads h best
 not-before bounds loads h best n le never = (
   ⊎_elim (λ (same : best ≡ n). absurd (never (inl same))) (λ (other : best ≢ n). omega (arith, le, other)) (cases_eq best n),
   λ more. never (inr more),
@@ -117,7 +124,8 @@ may-be-same n m f g h size same inside is =
     not (subst (λ (k : ℕ). IsLittle k f (f h)) (sym size)
     (let counts : count-of m f (f h) ≡ count-of m g (g h) =
     ap (count-of m f) (same h inside)
-    ∙ sum_below-same m (λ i. cond (nat_lt (g h * 10) (f i)) 1 0) (λ i. cond (nat_lt (g h * 10) (g i)) 1 0) (λ i l. ap (λ (x : ℕ). cond (nat_lt (g h * 10) x) 1 0) (same i l)) in
+    ∙ sum_below-same m (λ i. cond (nat_lt (g h * 10) (f i)) 1 0) (λ i. cond (nat_lt (g h * 10) (g i)) 1 0)
+    (λ i l. ap (λ (x : ℕ). cond (nat_lt (g h * 10) x) 1 0) (same i l)) in
     omega (arith, little, counts)))))
     is
 
@@ -131,7 +139,8 @@ pub record AreSoFar (ranks : ℕ) (hours : List Hour) (rows : List ProblemRow) (
   pub may_be : (k : ℕ) → k < length found → MayBeChosen (length hours) (load_in_hour ranks hours) (slice_index found k)
   pub next : AreNext ranks hours rows wanted own found
 
-pub only-present : (ranks : ℕ) (hours : List Hour) (rows : List ProblemRow) (wanted : Wanted) (own : List OwnPins) (most : ℕ) (found : List ℕ) → found ≡ 0 ∷ [] → 0 < length hours → 0 < most
+pub only-present : (ranks : ℕ) (hours : List Hour) (rows : List ProblemRow) (wanted : Wanted) (own : List OwnPins) (most : ℕ)
+    (found : List ℕ) → found ≡ 0 ∷ [] → 0 < length hours → 0 < most
     → AreSoFar ranks hours rows wanted own most found
 only-present ranks hours rows wanted own most found is some many = subst (AreSoFar ranks hours rows wanted own most) (sym is) (record {
   some = omega arith;
@@ -139,13 +148,15 @@ only-present ranks hours rows wanted own most found is some many = subst (AreSoF
   few = omega (arith, many);
   inside = λ k l. subst (λ (j : ℕ). slice_index (0 ∷ []) j < length hours) (let zero : 0 ≡ k = omega (arith, l) in zero) some;
   once = λ j k before l. absurd (let none : ⊥ = omega (arith, before, l) in none);
-  may_be = λ k l. subst (λ (j : ℕ). MayBeChosen (length hours) (load_in_hour ranks hours) (slice_index (0 ∷ []) j)) (let zero : 0 ≡ k = omega (arith, l) in zero) (inl refl);
+  may_be = λ k l. subst (λ (j : ℕ). MayBeChosen (length hours) (load_in_hour ranks hours) (slice_index (0 ∷ []) j))
+      (let zero : 0 ≡ k = omega (arith, l) in zero) (inl refl);
   next = λ k deep l. absurd (let none : ⊥ = omega (arith, deep, l) in none);
 })
 
 -- one more
 module _ (ranks : ℕ) (hours : List Hour) (rows : List ProblemRow) (wanted : Wanted) (own : List OwnPins) (most : ℕ) (found : List ℕ) (next : ℕ)
-    (is : AreSoFar ranks hours rows wanted own most found) (of : IsNextHour ranks hours rows wanted own found next) (inside : next < length hours) (room : length found < most) where
+    (is : AreSoFar ranks hours rows wanted own most found) (of : IsNextHour ranks hours rows wanted own found next)
+    (inside : next < length hours) (room : length found < most) where
   more : List ℕ
   more = found ++ next ∷ []
 
@@ -160,7 +171,8 @@ module _ (ranks : ℕ) (hours : List Hour) (rows : List ProblemRow) (wanted : Wa
         some = omega (arith, size);
         first = slice_index-push found next 0 is.some ∙ is.first;
         few = omega (arith, size, room);
-        inside = λ k l. more-numbers (λ (j x : ℕ). x < length hours) found (found ++ next ∷ []) (length found) next refl refl inside is.inside k (omega (arith, l, size));
+        inside = λ k l. more-numbers (λ (j x : ℕ). x < length hours) found (found ++ next ∷ []) (length found) next refl refl inside
+            is.inside k (omega (arith, l, size));
         once = λ j k before l.
             ⊎_elim (λ (end : k ≡ length found).
             let low : j < length found = omega (arith, before, end) in
@@ -189,7 +201,8 @@ module _ (ranks : ℕ) (hours : List Hour) (rows : List ProblemRow) (wanted : Wa
             (cases_eq k (length found));
       }
 
-pub by-need : (ranks : ℕ) (hours : List Hour) (rows : List ProblemRow) (wanted : Wanted) (own : List OwnPins) (most : ℕ) (found : List ℕ) → AreSoFar ranks hours rows wanted own most found
+pub by-need : (ranks : ℕ) (hours : List Hour) (rows : List ProblemRow) (wanted : Wanted) (own : List OwnPins) (most : ℕ) (found : List ℕ)
+    → AreSoFar ranks hours rows wanted own most found
     → (length found ≡ most) ⊎ IsNextHour ranks hours rows wanted own found (length hours) → AreChosenHours ranks hours rows wanted own most found
 by-need ranks hours rows wanted own most found is ended = record {
   some = is.some;
@@ -224,7 +237,8 @@ all-chosen ranks hours rows wanted own most kept found are size some kept_are fe
     }
 
 -- what is known of the hours, with a plan for some of them
-pub plan-judged : (ranks : ℕ) (hours : List Hour) (rows : List ProblemRow) (own : List OwnPins) (bounds : List ℕ) (kept : List Bool) (plan : HoursProposal) (table greatest : List ℕ)
+pub plan-judged : (ranks : ℕ) (hours : List Hour) (rows : List ProblemRow) (own : List OwnPins) (bounds : List ℕ) (kept : List Bool)
+    (plan : HoursProposal) (table greatest : List ℕ)
     → CanChoose ranks hours rows own bounds kept → length plan.proposal.plan.part.items ≡ length rows
     → AreLoads hours (length plan.proposal.plan.part.items) (packed_rank plan.proposal.plan.packing.rank.items plan.proposal.plan.part.items) table
     → ((h : ℕ) → h < length hours → slice_index greatest h ≡ greatest_of ranks (λ r. slice_index table (h * 64 + r)))
@@ -236,12 +250,14 @@ plan-judged ranks hours rows own bounds kept plan table greatest can size loads 
   loads_are = λ h l.
       are h l
       ∙ (greatest-same ranks (λ r. slice_index table (h * 64 + r))
-      (load_in hours (length plan.proposal.plan.part.items) (packed_rank plan.proposal.plan.packing.rank.items plan.proposal.plan.part.items) h) (λ r small. loads.are h r l small)
+      (load_in hours (length plan.proposal.plan.part.items)
+      (packed_rank plan.proposal.plan.packing.rank.items plan.proposal.plan.part.items) h) (λ r small. loads.are h r l small)
       ∙ ap (λ (n : ℕ). greatest_of ranks (load_in hours n (packed_rank plan.proposal.plan.packing.rank.items plan.proposal.plan.part.items) h)) size);
 }
 
 -- a plan for those chosen
-pub plan-for : (ranks : ℕ) (hours : List Hour) (rows : List ProblemRow) (wanted : Wanted) (own : List OwnPins) (chosen weights : List ℕ) (those : List Hour) (plan : HoursProposal)
+pub plan-for : (ranks : ℕ) (hours : List Hour) (rows : List ProblemRow) (wanted : Wanted) (own : List OwnPins) (chosen weights : List ℕ)
+    (those : List Hour) (plan : HoursProposal)
     → AreThose hours chosen those → weights ≡ replicate (length chosen) 100 → IsHoursProposal ranks those rows weights (judged wanted) own plan
     → IsPlanFor ranks hours rows wanted own chosen plan
 plan-for ranks hours rows wanted own chosen weights those plan are full of = record {
@@ -268,10 +284,12 @@ pub kept-known : (ranks : ℕ) (hours : List Hour) (loads : List ℕ) (kept : Li
     → (h : ℕ) → h < length hours → get_or kept h false ≡ true ↔ MayBeChosen (length hours) (load_in_hour ranks hours) h
 kept-known ranks hours loads kept size are known h l =
     let inside : h < length loads = omega (arith, l, size) in (
-      λ (is : get_or kept h false ≡ true). may-be-same (length loads) (length hours) (slice_index loads) (load_in_hour ranks hours) h size are l ((known h inside).0 is),
+      λ (is : get_or kept h false ≡ true). may-be-same (length loads) (length hours) (slice_index loads) (load_in_hour ranks hours) h size
+          are l ((known h inside).0 is),
       λ (may : MayBeChosen (length hours) (load_in_hour ranks hours) h).
           (known h inside).1
-          (may-be-same (length hours) (length loads) (load_in_hour ranks hours) (slice_index loads) h (sym size) (λ i li. sym (are i (omega (arith, li, size)))) inside may),
+          (may-be-same (length hours) (length loads) (load_in_hour ranks hours) (slice_index loads) h (sym size)
+          (λ i li. sym (are i (omega (arith, li, size)))) inside may),
     )
 
 -- the places of what is marked, of the first ones
@@ -291,7 +309,8 @@ marked-none marked found is =
       each = λ g l mark. absurd (let no : ⊥ = omega (arith, l) in no);
     }
 
-pub marked-same : (marked : List Bool) (h : ℕ) (found more : List ℕ) → more ≡ found → get_or marked h false ≡ false → AreMarkedBefore marked h found → AreMarkedBefore marked (h + 1) more
+pub marked-same : (marked : List Bool) (h : ℕ) (found more : List ℕ) → more ≡ found → get_or marked h false ≡ false
+    → AreMarkedBefore marked h found → AreMarkedBefore marked (h + 1) more
 marked-same marked h found more same not is = subst (AreMarkedBefore marked (h + 1)) (sym same) (record {
   inside = λ k l. omega (arith, is.inside k l);
   rises = is.rises;
@@ -308,7 +327,8 @@ marked-more marked h found more more_is mark is = subst (AreMarkedBefore marked 
     let last : slice_index (found ++ h ∷ []) (length found) ≡ h = slice_index-last found h in
     let old : (k : ℕ) → k < length found → slice_index (found ++ h ∷ []) k ≡ slice_index found k = λ k l. slice_index-push found h k l in
     record {
-      inside = λ k l. more-numbers (λ (j x : ℕ). x < h + 1) found (found ++ h ∷ []) (length found) h refl refl (omega arith) (λ j lj. omega (arith, is.inside j lj)) k (omega (arith, l, size));
+      inside = λ k l. more-numbers (λ (j x : ℕ). x < h + 1) found (found ++ h ∷ []) (length found) h refl refl (omega arith)
+          (λ j lj. omega (arith, is.inside j lj)) k (omega (arith, l, size));
       rises = λ j k before l.
           ⊎_elim (λ (end : k ≡ length found).
           let low : j < length found = omega (arith, before, end) in
@@ -318,7 +338,8 @@ marked-more marked h found more more_is mark is = subst (AreMarkedBefore marked 
           let lj : j < length found = omega (arith, lk, before) in
           omega (arith, old j lj, old k lk, is.rises j k before lk))
           (cases_eq k (length found));
-      marks = λ k l. more-numbers (λ (j x : ℕ). get_or marked x false ≡ true) found (found ++ h ∷ []) (length found) h refl refl mark is.marks k (omega (arith, l, size));
+      marks = λ k l. more-numbers (λ (j x : ℕ). get_or marked x false ≡ true) found (found ++ h ∷ []) (length found) h refl refl mark
+          is.marks k (omega (arith, l, size));
       each = λ g l marked_g.
           ⊎_elim (λ (here : g ≡ h). (length found, omega (arith, size), last ∙ sym here))
           (λ (other : g ≢ h).

@@ -55,7 +55,8 @@ free_below rows own i here free = record { none = none_here rows own i here free
 pub free_above : (rows : List PinRow) (own : ℕ → Option ℕ) (i : ℕ) → IsFree rows own i → IsFree rows own (parent_at rows i)
 free_above rows own i free = record { none = λ n. free.none (suc n) }
 
-nearer_here : (rows : List PinRow) (own : ℕ → Option ℕ) (i r : ℕ) → own i ≡ None → (near : IsNearest rows own (parent_at rows i) r) → (n : ℕ) → n < suc near.steps → own (climb rows n i) ≡ None
+nearer_here : (rows : List PinRow) (own : ℕ → Option ℕ) (i r : ℕ) → own i ≡ None → (near : IsNearest rows own (parent_at rows i) r)
+    → (n : ℕ) → n < suc near.steps → own (climb rows n i) ≡ None
 nearer_here rows own i r here near zero l = here
 nearer_here rows own i r here near (suc n) l = near.nearer n (omega arith)
 
@@ -63,7 +64,8 @@ pub nearest_below : (rows : List PinRow) (own : ℕ → Option ℕ) (i r : ℕ) 
 nearest_below rows own i r here near =
     record { steps = suc near.steps; pin = near.pin; nearer = nearer_here rows own i r here near }
 
-above_by : (rows : List PinRow) (own : ℕ → Option ℕ) (i r steps : ℕ) → own i ≡ None → own (climb rows steps i) ≡ Some r → ((n : ℕ) → n < steps → own (climb rows n i) ≡ None) → IsNearest rows own (parent_at rows i) r
+above_by : (rows : List PinRow) (own : ℕ → Option ℕ) (i r steps : ℕ) → own i ≡ None → own (climb rows steps i) ≡ Some r
+    → ((n : ℕ) → n < steps → own (climb rows n i) ≡ None) → IsNearest rows own (parent_at rows i) r
 above_by rows own i r zero here pin nearer = absurd (some_none (own i) r pin here)
 above_by rows own i r (suc n) here pin nearer =
     record { steps = n; pin = pin; nearer = λ m l. nearer (suc m) (omega (arith, l)) }

@@ -1,5 +1,6 @@
 -- The contract's clauses, of the pins that the holds give; and one more hold.
-use Rattle.std.proofs.Common.{◌≡◌, ◌≢◌, ℕ, ◌+◌, ◌<◌, ◌≤◌, List, [], ◌∷◌, ◌++◌, get_or, length, true, false, Option, None, refl, ap, sym, ◌∙◌, arith, ⊎_elim, subst}
+use Rattle.std.proofs.Common.{◌≡◌, ◌≢◌, ℕ, ◌+◌, ◌<◌, ◌≤◌, List, [], ◌∷◌, ◌++◌, get_or, length}
+use Rattle.std.proofs.Common.{true, false, Option, None, refl, ap, sym, ◌∙◌, arith, ⊎_elim, subst}
 use Rattle.std.proofs.lemmas.Bool.{cases_eq, cases_lt, cases_Bool}
 use Rattle.std.proofs.lemmas.List.{get_or_append_left, get_or_push, get_or_read}
 use Rattle.ceph_plan.specs.declared.row.PinRow.{PinRow}
@@ -54,7 +55,8 @@ pins_found rows holds are =
       least = λ settled other choice real i some none.
           let is : is_own (hold_at holds i) ≡ true = new_own rows holds (length rows) i some in
           let here : IsHeld rows (new_pin rows holds) i Own = own_held rows holds (new_pin rows holds) i are by is in
-          least_of.least rows (new_pin rows holds) other i are.are settled choice real (own_below rows holds i are is) (ours_here rows holds i are is) here.2 none;
+          least_of.least rows (new_pin rows holds) other i are.are settled choice real (own_below rows holds i are is)
+          (ours_here rows holds i are is) here.2 none;
       order = λ p q steps less l same.
           let fall = falling rows holds (length rows) p q less l in
           let inside = row-below rows holds (length rows) q l in
@@ -62,7 +64,10 @@ pins_found rows holds are =
           omega (arith, fall, low, same);
     }
 
-pub hold_more : (rows : List PinRow) (holds : List Hold) (h : Hold) (i : ℕ) → length holds ≡ i → AreRows rows → AreHolds rows holds i → i < length rows → (i ≡ 0 → h ≡ Free) → (0 < i → h ≡ hold_of (row_at rows i) (row_at rows (parent_at rows i)) (hold_at holds (parent_at rows i))) → AreHolds rows (holds ++ h ∷ []) (i + 1)
+pub hold_more : (rows : List PinRow) (holds : List Hold) (h : Hold) (i : ℕ) → length holds ≡ i → AreRows rows → AreHolds rows holds i
+    → i < length rows → (i ≡ 0 → h ≡ Free)
+    → (0 < i → h ≡ hold_of (row_at rows i) (row_at rows (parent_at rows i)) (hold_at holds (parent_at rows i)))
+    → AreHolds rows (holds ++ h ∷ []) (i + 1)
 hold_more rows holds h i size are so_far l root below =
     let last : hold_at (holds ++ h ∷ []) i ≡ h = get_or_push holds h Free i size in
     let before : (j : ℕ) → j < i → hold_at (holds ++ h ∷ []) j ≡ hold_at holds j = λ j le. get_or_append_left holds (h ∷ []) Free j (omega (arith, le, size)) in
@@ -74,12 +79,15 @@ hold_more rows holds h i size are so_far l root below =
       below = λ j some le.
           ⊎_elim (λ (same : i ≡ j).
           let up : parent_at rows i < i = are.above i (omega (arith, same, some)) l in
-          subst (λ (k : ℕ). hold_at (holds ++ h ∷ []) k ≡ hold_of (row_at rows k) (row_at rows (parent_at rows k)) (hold_at (holds ++ h ∷ []) (parent_at rows k))) same
-          (last ∙ (below (omega (arith, same, some)) ∙ ap (λ (x : Hold). hold_of (row_at rows i) (row_at rows (parent_at rows i)) x) (sym (before (parent_at rows i) up)))))
+          subst (λ (k : ℕ). hold_at (holds ++ h ∷ []) k ≡ hold_of (row_at rows k) (row_at rows (parent_at rows k))
+          (hold_at (holds ++ h ∷ []) (parent_at rows k))) same
+          (last ∙ (below (omega (arith, same, some)) ∙ ap (λ (x : Hold). hold_of (row_at rows i) (row_at rows (parent_at rows i)) x)
+          (sym (before (parent_at rows i) up)))))
           (λ (other : i ≢ j).
           let less : j < i = omega (arith, other, le) in
           let up : parent_at rows j < j = are.above j some (omega (arith, less, l)) in
-          before j less ∙ (so_far.below j some less ∙ ap (λ (x : Hold). hold_of (row_at rows j) (row_at rows (parent_at rows j)) x) (sym (before (parent_at rows j) (omega (arith, up, less))))))
+          before j less ∙ (so_far.below j some less ∙ ap (λ (x : Hold). hold_of (row_at rows j) (row_at rows (parent_at rows j)) x)
+          (sym (before (parent_at rows j) (omega (arith, up, less))))))
           (cases_eq i j);
     }
 

@@ -1,5 +1,6 @@
 -- Lists of hours, with one more, and what they count.
-use Rattle.std.proofs.Common.{◌≡◌, ◌≢◌, ◌∙◌, ◌+◌, ◌<◌, ◌≤◌, ◌++◌, ◌∷◌, ◌^◌, [], ℕ, zero, suc, List, Option, Some, ap, arith, length, refl, slice_index, subst, sym, ⊎_elim}
+use Rattle.std.proofs.Common.{◌≡◌, ◌≢◌, ◌∙◌, ◌+◌, ◌<◌, ◌≤◌, ◌++◌, ◌∷◌, ◌^◌, [], ℕ, zero}
+use Rattle.std.proofs.Common.{suc, List, Option, Some, ap, arith, length, refl, slice_index, subst, sym, ⊎_elim}
 use Rattle.std.specs.List.{slice_get}
 use Rattle.std.specs.Option.{option_map_or}
 use Rattle.std.proofs.lemmas.Bool.{cases_eq}
@@ -46,7 +47,8 @@ pub pinned-there : (hours : List Hour) (h : ℕ) (hour : Hour) → slice_get hou
 pinned-there hours h hour there = ap (λ (o : Option Hour). option_map_or (λ (one : Hour). one.pinned.items) o []) there
 
 -- what a heat counts is not too much
-pub small-share : (hours shares : List Hour) (n count bound weight h i : ℕ) → AreHours hours n → h < length hours → CountFor count bound weight (heats_in hours h) (heats_in shares h)
+pub small-share : (hours shares : List Hour) (n count bound weight h i : ℕ) → AreHours hours n → h < length hours
+    → CountFor count bound weight (heats_in hours h) (heats_in shares h)
     → i < n → heat_in shares h i ≤ 2 ^ 57
 small-share hours shares n count bound weight h i are l counts inside =
     omega (arith, counts.each i (omega (arith, inside, are.size h l)), sum_below-term n i (heat_in hours h) inside, are.total h l)

@@ -18,7 +18,8 @@ use Rattle.ceph_plan.specs.Refusals.{IsProposalRefusal}
 use Rattle.ceph_plan.specs.Shares.{AreShares}
 
 -- where rows go to the same ranks the loads are the same
-pub loads-same : (hours : List Hour) (n m : ℕ) (to other : ℕ → ℕ) (loads : List ℕ) → n ≡ m → ((i : ℕ) → i < m → to i ≡ other i) → AreLoads hours n to loads → AreLoads hours m other loads
+pub loads-same : (hours : List Hour) (n m : ℕ) (to other : ℕ → ℕ) (loads : List ℕ) → n ≡ m → ((i : ℕ) → i < m → to i ≡ other i)
+    → AreLoads hours n to loads → AreLoads hours m other loads
 loads-same hours n m to other loads size same are = record {
   size = are.size;
   are = λ h r l small.
@@ -32,7 +33,8 @@ loads-same hours n m to other loads size same are = record {
 module _ (ranks : ℕ) (hours : List Hour) (rows : List ProblemRow) (weights : List ℕ) (wanted : Wanted) (own : List OwnPins) (shares : Shares)
     (are : AreShares ranks rows hours weights shares) where
   -- the rows of a proposal are as many
-  pub proposal-size : (proposal : Proposal) → IsProposal ranks shares.hours.items shares.rows.items wanted own proposal → length proposal.plan.part.items ≡ length rows
+  pub proposal-size : (proposal : Proposal) → IsProposal ranks shares.hours.items shares.rows.items wanted own proposal
+      → length proposal.plan.part.items ≡ length rows
   proposal-size proposal is = is.placed.size ∙ are.rows_size
 
   pub proposal-hours : (proposal : Proposal) → IsProposal ranks shares.hours.items shares.rows.items wanted own proposal → AreHours hours (length rows)
@@ -43,9 +45,11 @@ module _ (ranks : ℕ) (hours : List Hour) (rows : List ProblemRow) (weights : L
       → (i : ℕ) → i < length proposal.plan.part.items → slice_index proposal.plan.part.items i < length proposal.plan.packing.rank.items
   proposal-below proposal is i l = omega (arith, is.placed.division.below i (omega (arith, l, is.placed.size)), is.placed.packing.size)
 
-  pub hours-proposed : (found : HoursProposal) → AreCountable hours weights (length rows) → IsProposal ranks shares.hours.items shares.rows.items wanted own found.proposal
+  pub hours-proposed : (found : HoursProposal) → AreCountable hours weights (length rows)
+      → IsProposal ranks shares.hours.items shares.rows.items wanted own found.proposal
       → found.bounds.items ≡ shares.bounds.items
-      → AreLoads hours (length found.proposal.plan.part.items) (packed_rank found.proposal.plan.packing.rank.items found.proposal.plan.part.items) found.loads.items
+      → AreLoads hours (length found.proposal.plan.part.items)
+      (packed_rank found.proposal.plan.packing.rank.items found.proposal.plan.part.items) found.loads.items
       → AreLoads hours (length rows) (now_at rows) found.before.items → IsHoursProposal ranks hours rows weights wanted own found
   hours-proposed found countable is bounds loads before = record {
     countable = countable;
@@ -54,7 +58,8 @@ module _ (ranks : ℕ) (hours : List Hour) (rows : List ProblemRow) (weights : L
     proposal = is;
     bounds_are = bounds;
     bounds_size = ap length bounds ∙ are.bounds_size;
-    loads = subst (λ (n : ℕ). AreLoads hours n (packed_rank found.proposal.plan.packing.rank.items found.proposal.plan.part.items) found.loads.items) (proposal-size found.proposal is) loads;
+    loads = subst (λ (n : ℕ). AreLoads hours n (packed_rank found.proposal.plan.packing.rank.items found.proposal.plan.part.items)
+        found.loads.items) (proposal-size found.proposal is) loads;
     before = before;
   }
 

@@ -6,7 +6,8 @@ use Rattle.mds_types.specs.Problem.{IsForest, heat_at}
 use Rattle.mds_types.specs.Sums.{max_below, sum_below}
 use Rattle.mds_types.proofs.SumsLemmas.{sum_below-fewer, sum_below-le, sum_below-same, sum_below_more}
 use Rattle.ceph_plan.specs.declared.hours.Hour.{Hour}
-use Rattle.ceph_plan.specs.Packing.{AreHours, AreLoads, ArePinned, HaveHeats, IsOneHour, greatest_load, greatest_of, heat_in, load, load_in, load_of_rows, pinned_at, pinned_in}
+use Rattle.ceph_plan.specs.Packing.{AreHours, AreLoads, ArePinned, HaveHeats, IsOneHour, greatest_load, greatest_of}
+use Rattle.ceph_plan.specs.Packing.{heat_in, load, load_in, load_of_rows, pinned_at, pinned_in}
 use Rattle.ceph_plan.proofs.Bounds.{greatest-same}
 
 -- the greatest of what is alike
@@ -45,7 +46,8 @@ pub pinned-small : (hours : List Hour) (h r : ℕ) → ArePinned hours → h < l
 pinned-small hours h r pinned l small = All-get_or (λ (n : ℕ). n ≤ 2 ^ 57) (pinned_in hours h) r 0 (omega (arith, (pinned h l).size, small)) (pinned h l).small
 
 -- of one hour
-pub one-load : (rows : List ProblemRow) (pinned : List ℕ) (hours : List Hour) (to : ℕ → ℕ) (r : ℕ) → IsOneHour rows pinned hours → load hours (length rows) to r ≡ load_of_rows pinned rows to r
+pub one-load : (rows : List ProblemRow) (pinned : List ℕ) (hours : List Hour) (to : ℕ → ℕ) (r : ℕ) → IsOneHour rows pinned hours
+    → load hours (length rows) to r ≡ load_of_rows pinned rows to r
 one-load rows pinned hours to r is =
     let n : ℕ = length rows in
     let f : ℕ → ℕ = λ h. load_in hours n to h r in
@@ -73,7 +75,8 @@ some-more n i some f inside =
     omega (arith, before, all, sum_below_more i f)
 
 -- one more of n rows or parts can be added to what the first load
-pub loads-room : (hours : List Hour) (n i : ℕ) (to : ℕ → ℕ) (loads : List ℕ) (h r : ℕ) → AreHours hours n → AreLoads hours i to loads → i < n → h < length hours → r < 64
+pub loads-room : (hours : List Hour) (n i : ℕ) (to : ℕ → ℕ) (loads : List ℕ) (h r : ℕ) → AreHours hours n → AreLoads hours i to loads
+    → i < n → h < length hours → r < 64
     → slice_index loads (h * 64 + r) + heat_in hours h i < 2 ^ 64
 loads-room hours n i to loads h r are loaded inside l small =
     omega (arith, loaded.are h r l small, pinned-small hours h r are.pinned l small, some-more n i (λ q. to q == r) (heat_in hours h) inside, are.total h l)

@@ -1,5 +1,7 @@
 -- Hours that were not seen: what directories have at or below them, and which come first.
-use Rattle.std.proofs.Common.{◌≡◌, ◌≢◌, ◌∙◌, ◌⊎◌, ◌↔◌, ◌+◌, ◌*◌, ◌<◌, ◌≤◌, ◌==◌, ◌&&◌, ◌++◌, ◌∷◌, ◌^◌, [], ℕ, zero, suc, Bool, true, false, List, Option, Some, ap, arith, cond, get_or, inl, inr, length, length-append, nat_lt, refl, set, slice_index, subst, sym, ⊎_elim}
+use Rattle.std.proofs.Common.{◌≡◌, ◌≢◌, ◌∙◌, ◌⊎◌, ◌↔◌, ◌+◌, ◌*◌, ◌<◌, ◌≤◌, ◌==◌, ◌&&◌, ◌++◌, ◌∷◌}
+use Rattle.std.proofs.Common.{◌^◌, [], ℕ, zero, suc, Bool, true, false, List, Option, Some, ap, arith}
+use Rattle.std.proofs.Common.{cond, get_or, inl, inr, length, length-append, nat_lt, refl, set, slice_index, subst, sym, ⊎_elim}
 use Rattle.std.proofs.lemmas.Bool.{and_parts, cases_Bool, cases_eq, eq-eqb, eqb-true, lt-ltb, ltb-true, ne_eqb}
 use Rattle.std.proofs.lemmas.List.{get_or-set_other, get_or-set_same, get_or_append_left, get_or_push, length-set}
 use Rattle.mds_types.specs.declared.problem.ProblemRow.{ProblemRow}
@@ -9,7 +11,8 @@ use Rattle.mds_types.specs.Sums.{count_below, sum_below}
 use Rattle.mds_types.proofs.SumsLemmas.{sum_below-same, sum_below_more}
 use Rattle.residual_cut.proofs.LabelLemmas.{slice_index-last, slice_index-push}
 use Rattle.residual_cut.specs.Subtrees.{AreSums}
-use Rattle.ceph_plan.specs.MadeHours.{AreLargest, AreMadeOver, AreTotals, AreUncounted, AreWorth, HaveNumbers, IsFilled, IsLarge, IsMadeHour, IsWarm, IsWorthMaking, MayTake}
+use Rattle.ceph_plan.specs.MadeHours.{AreLargest, AreMadeOver, AreTotals, AreUncounted, AreWorth, HaveNumbers}
+use Rattle.ceph_plan.specs.MadeHours.{IsFilled, IsLarge, IsMadeHour, IsWarm, IsWorthMaking, MayTake}
 use Rattle.ceph_plan.specs.MadeHours.{free_children, heat_mark, is_free_child, made_parent}
 use Rattle.ceph_plan.specs.declared.hours.Hour.{Hour}
 use Rattle.ceph_plan.specs.declared.made.MadeHour.{MadeHour}
@@ -39,7 +42,8 @@ module _ (rows : List ProblemRow) (free : List Bool) (counts new : List ℕ) (i 
   abbrev pub AreCounted : List ℕ → ℕ → Type 0
   AreCounted those k = (d : ℕ) → d < length rows → slice_index those d ≡ count_below k (is_free_child rows free d)
 
-  pub counted-more : (p v : ℕ) → new ≡ set counts p v → v ≡ slice_index counts p + 1 → p ≡ parent_at rows i → p < length counts → 0 < i → get_or free i false ≡ true
+  pub counted-more : (p v : ℕ) → new ≡ set counts p v → v ≡ slice_index counts p + 1 → p ≡ parent_at rows i → p < length counts → 0 < i
+      → get_or free i false ≡ true
       → AreCounted counts i → AreCounted new (i + 1)
   counted-more p v set_is value up inside deep is before d l =
       let step : count_below (i + 1) (is_free_child rows free d) ≡ count_below i (is_free_child rows free d) + mark (is_free_child rows free d i) =
@@ -47,7 +51,8 @@ module _ (rows : List ProblemRow) (free : List Bool) (counts new : List ℕ) (i 
       ⊎_elim (λ (same : d ≡ p).
       let child : is_free_child rows free d i ≡ true = rw (lt-ltb 0 i deep, eq-eqb (parent_at rows i) d (sym (same ∙ up)), is) refl in
       let yes : mark (is_free_child rows free d i) ≡ 1 = ap mark child in
-      let here : slice_index new d ≡ v = ap (λ (xs : List ℕ). slice_index xs d) set_is ∙ (ap (slice_index (set counts p v)) same ∙ get_or-set_same counts p v 0 inside) in
+      let here : slice_index new d ≡ v = ap (λ (xs : List ℕ). slice_index xs d) set_is
+      ∙ (ap (slice_index (set counts p v)) same ∙ get_or-set_same counts p v 0 inside) in
       omega (arith, here, value, ap (slice_index counts) same, before d l, step, yes))
       (λ (other : d ≢ p).
       let child : is_free_child rows free d i ≡ false = rw (lt-ltb 0 i deep, ne_eqb (parent_at rows i) d (λ same. other (sym (up ∙ same)))) refl in
@@ -82,7 +87,8 @@ pub one-total : (rows : List ProblemRow) (own f g : ℕ → ℕ) (v : ℕ) → I
 one-total rows own f g v forest of other inside = same-total rows own f g forest of other (length rows) v inside (omega arith)
 
 -- rows with these numbers as their heat are as good, and their subtrees have the totals
-pub numbered-forest : (rows found : List ProblemRow) (own : List ℕ) → IsForest rows → HaveNumbers rows own found → ((i : ℕ) → i < length rows → slice_index own i ≤ 2 ^ 40)
+pub numbered-forest : (rows found : List ProblemRow) (own : List ℕ) → IsForest rows → HaveNumbers rows own found
+    → ((i : ℕ) → i < length rows → slice_index own i ≤ 2 ^ 40)
     → IsForest found
 numbered-forest rows found own forest is small = record {
   few = omega (arith, is.size, forest.few);
@@ -181,26 +187,14 @@ pub record AreTaken (numbers left found : List ℕ) : Type 0 where
   pub falls : (j k : ℕ) → j < k → k < length found → slice_index numbers (slice_index found k) ≤ slice_index numbers (slice_index found j)
   pub low : (d k : ℕ) → d < length numbers → k < length found → slice_index left d ≤ slice_index numbers (slice_index found k)
 
-pub taken-none : (numbers left found : List ℕ) → left ≡ numbers → found ≡ [] → AreTaken numbers left found
-taken-none numbers left found left_is found_is =
-    let none : length found ≡ 0 = ap length found_is in
-    record {
-      size = ap length left_is;
-      each = λ d l. inl (ap (λ (xs : List ℕ). slice_index xs d) left_is, λ k lk. absurd (let no : ⊥ = omega (arith, none, lk) in no));
-      inside = λ k lk. absurd (let no : ⊥ = omega (arith, none, lk) in no);
-      many = λ k lk. absurd (let no : ⊥ = omega (arith, none, lk) in no);
-      once = λ j k before lk. absurd (let no : ⊥ = omega (arith, none, lk) in no);
-      falls = λ j k before lk. absurd (let no : ⊥ = omega (arith, none, lk) in no);
-      low = λ d k l lk. absurd (let no : ⊥ = omega (arith, none, lk) in no);
-    }
-
 -- one more
 module _ (numbers left found : List ℕ) (at : ℕ) (is : AreTaken numbers left found) (inside : at < length left)
     (greatest : (i : ℕ) → i < length left → slice_index left i ≤ slice_index left at) (many : MADE_CHILDREN ≤ slice_index left at) where
   new : (slice_index left at ≡ slice_index numbers at) × ((k : ℕ) → k < length found → slice_index found k ≢ at)
   new =
       ⊎_elim (λ (yes : (slice_index left at ≡ slice_index numbers at) × ((k : ℕ) → k < length found → slice_index found k ≢ at)). yes)
-      (λ (no : (slice_index left at ≡ 0) × ((k : ℕ) × (k < length found) × (slice_index found k ≡ at))). absurd (let none : ⊥ = omega (arith, no.0, many) in none))
+      (λ (no : (slice_index left at ≡ 0) × ((k : ℕ) × (k < length found) × (slice_index found k ≡ at))). absurd
+      (let none : ⊥ = omega (arith, no.0, many) in none))
       (is.each at (omega (arith, inside, is.size)))
 
   old-place : (k : ℕ) → k < length found → slice_index (found ++ at ∷ []) k ≡ slice_index found k
@@ -212,7 +206,8 @@ module _ (numbers left found : List ℕ) (at : ℕ) (is : AreTaken numbers left 
   size-more : length (found ++ at ∷ []) ≡ length found + 1
   size-more = simp length-append refl
 
-  place : (P : ℕ → Type 0) → P at → ((k : ℕ) → k < length found → P (slice_index found k)) → (k : ℕ) → k < length (found ++ at ∷ []) → P (slice_index (found ++ at ∷ []) k)
+  place : (P : ℕ → Type 0) → P at → ((k : ℕ) → k < length found → P (slice_index found k)) → (k : ℕ) → k < length (found ++ at ∷ [])
+      → P (slice_index (found ++ at ∷ []) k)
   place P last before k l =
       more-numbers (λ (j x : ℕ). P x) found (found ++ at ∷ []) (length found) at refl refl last before k (omega (arith, l, size-more))
 
@@ -223,7 +218,10 @@ module _ (numbers left found : List ℕ) (at : ℕ) (is : AreTaken numbers left 
   taken-more = record {
     size = length-set left at 0 ∙ is.size;
     each = λ d l.
-        ⊎_elim (λ (same : d ≡ at). inr (ap (slice_index (set left at 0)) same ∙ get_or-set_same left at 0 0 inside, (length found, omega (arith, size-more), new-place ∙ sym same)))
+        ⊎_elim (λ (same : d ≡ at). inr (
+          ap (slice_index (set left at 0)) same ∙ get_or-set_same left at 0 0 inside,
+          (length found, omega (arith, size-more), new-place ∙ sym same),
+        ))
         (λ (other : d ≢ at).
         let kept : slice_index (set left at 0) d ≡ slice_index left d = get_or-set_other left at d 0 0 other in
         ⊎_elim (λ (yes : (slice_index left d ≡ slice_index numbers d) × ((k : ℕ) → k < length found → slice_index found k ≢ d)).
@@ -269,22 +267,6 @@ module _ (numbers left found : List ℕ) (at : ℕ) (is : AreTaken numbers left 
         (cases_eq k (length found));
   }
 
--- all that are wanted are taken, or none that is left is large enough
-pub taken-all : (numbers left found : List ℕ) (count : ℕ) → AreTaken numbers left found → length found ≤ count
-    → ((d : ℕ) → d < length numbers → MADE_CHILDREN ≤ slice_index left d → length found ≡ count) → AreLargest numbers count found
-taken-all numbers left found count is few full = record {
-  few = few;
-  inside = is.inside;
-  many = is.many;
-  once = is.once;
-  falls = is.falls;
-  rest = λ d l large out.
-      ⊎_elim (λ (yes : (slice_index left d ≡ slice_index numbers d) × ((k : ℕ) → k < length found → slice_index found k ≢ d)).
-      (full d l (omega (arith, yes.0, large)), λ k lk. omega (arith, yes.0, is.low d k l lk)))
-      (λ (no : (slice_index left d ≡ 0) × ((k : ℕ) × (k < length found) × (slice_index found k ≡ d))). absurd (out no.1.0 no.1.1 no.1.2))
-      (is.each d l);
-}
-
 -- totals of the same numbers
 pub totals-same : (rows : List ProblemRow) (f g totals : ℕ → ℕ) → ((v : ℕ) → v < length rows → f v ≡ g v) → AreTotals rows f totals → AreTotals rows g totals
 totals-same rows f g totals same are v l = are v l ∙ ap (λ (x : ℕ). x + sum_of_children rows v totals) (same v l)
@@ -298,13 +280,15 @@ module _ (rows : List ProblemRow) (free : List Bool) (heats : List ℕ) (old new
   abbrev pub AreLeft : List ℕ → ℕ → Type 0
   AreLeft worth k = (d : ℕ) → k ≤ d → d < length rows → slice_index worth d ≡ free_children rows free d
 
-  pub decided-kept : new ≡ old → i < length rows → IsWarm rows heats i ⊎ IsLarge rows i → ((d : ℕ) → d < i → IsDecided old d) → AreLeft old i → (d : ℕ) → d < i + 1 → IsDecided new d
+  pub decided-kept : new ≡ old → i < length rows → IsWarm rows heats i ⊎ IsLarge rows i → ((d : ℕ) → d < i → IsDecided old d)
+      → AreLeft old i → (d : ℕ) → d < i + 1 → IsDecided new d
   decided-kept same inside why before left d l =
       subst (λ (xs : List ℕ). IsDecided xs d) (sym same)
       (⊎_elim (λ (here : d ≡ i). subst (IsDecided old) (sym here) (inl (why, left i (omega arith) inside)))
       (λ (other : d ≢ i). before d (omega (arith, l, other))) (cases_eq d i))
 
-  pub decided-none : new ≡ set old i 0 → i < length old → ¬ (IsWarm rows heats i ⊎ IsLarge rows i) → ((d : ℕ) → d < i → IsDecided old d) → (d : ℕ) → d < i + 1 → IsDecided new d
+  pub decided-none : new ≡ set old i 0 → i < length old → ¬ (IsWarm rows heats i ⊎ IsLarge rows i) → ((d : ℕ) → d < i → IsDecided old d)
+      → (d : ℕ) → d < i + 1 → IsDecided new d
   decided-none set_is inside never before d l =
       subst (λ (xs : List ℕ). IsDecided xs d) (sym set_is)
       (⊎_elim (λ (here : d ≡ i). subst (IsDecided (set old i 0)) (sym here) (inr (never, get_or-set_same old i 0 0 inside)))
@@ -320,10 +304,12 @@ module _ (rows : List ProblemRow) (free : List Bool) (heats : List ℕ) (old new
 
   pub left-set : new ≡ set old i 0 → AreLeft old i → AreLeft new (i + 1)
   left-set set_is left d le l =
-      ap (λ (xs : List ℕ). slice_index xs d) set_is ∙ (get_or-set_other old i d 0 0 (λ same. let none : ⊥ = omega (arith, same, le) in none) ∙ left d (omega (arith, le)) l)
+      ap (λ (xs : List ℕ). slice_index xs d) set_is
+      ∙ (get_or-set_other old i d 0 0 (λ same. let none : ⊥ = omega (arith, same, le) in none) ∙ left d (omega (arith, le)) l)
 
 -- what is worth an hour
-pub some-worth : (rows : List ProblemRow) (free : List Bool) (heats worth : List ℕ) (d : ℕ) → AreWorth rows free heats worth → d < length rows → MADE_CHILDREN ≤ slice_index worth d
+pub some-worth : (rows : List ProblemRow) (free : List Bool) (heats worth : List ℕ) (d : ℕ) → AreWorth rows free heats worth
+    → d < length rows → MADE_CHILDREN ≤ slice_index worth d
     → IsWorthMaking rows free heats d × (slice_index worth d ≡ free_children rows free d)
 some-worth rows free heats worth d is inside many =
     ⊎_elim (λ (yes : (IsWarm rows heats d ⊎ IsLarge rows d) × (slice_index worth d ≡ free_children rows free d)).
@@ -331,7 +317,8 @@ some-worth rows free heats worth d is inside many =
     (λ (no : ¬ (IsWarm rows heats d ⊎ IsLarge rows d) × (slice_index worth d ≡ 0)). absurd (let none : ⊥ = omega (arith, many, no.1) in none))
     (is.each d inside)
 
-pub worth-all : (rows : List ProblemRow) (free : List Bool) (heats worth : List ℕ) (d : ℕ) → AreWorth rows free heats worth → d < length rows → IsWorthMaking rows free heats d
+pub worth-all : (rows : List ProblemRow) (free : List Bool) (heats worth : List ℕ) (d : ℕ) → AreWorth rows free heats worth
+    → d < length rows → IsWorthMaking rows free heats d
     → slice_index worth d ≡ free_children rows free d
 worth-all rows free heats worth d is inside may =
     ⊎_elim (λ (yes : (IsWarm rows heats d ⊎ IsLarge rows d) × (slice_index worth d ≡ free_children rows free d)). yes.1)
@@ -339,7 +326,8 @@ worth-all rows free heats worth d is inside may =
     (is.each d inside)
 
 -- an hour for each of the largest
-module _ (rows : List ProblemRow) (free : List Bool) (now : Hour) (count : ℕ) (worth parents : List ℕ) (found : List MadeHour) (is : AreWorth rows free now.heats.items worth)
+module _ (rows : List ProblemRow) (free : List Bool) (now : Hour) (count : ℕ) (worth parents : List ℕ) (found : List MadeHour)
+    (is : AreWorth rows free now.heats.items worth)
     (largest : AreLargest worth count parents) (size : length found ≡ length parents)
     (each : (k : ℕ) (one : MadeHour) → slice_get found k ≡ Some one → IsMadeHour rows free now one)
     (same : (k : ℕ) → k < length parents → made_parent found k ≡ slice_index parents k) where
@@ -349,7 +337,8 @@ module _ (rows : List ProblemRow) (free : List Bool) (now : Hour) (count : ℕ) 
   children : (k : ℕ) → k < length found → free_children rows free (made_parent found k) ≡ slice_index worth (slice_index parents k)
   children k l =
       ap (free_children rows free) (same k (there k l))
-      ∙ sym (some-worth rows free now.heats.items worth (slice_index parents k) is (omega (arith, largest.inside k (there k l), is.size)) (largest.many k (there k l))).1
+      ∙ sym (some-worth rows free now.heats.items worth (slice_index parents k) is (omega (arith, largest.inside k (there k l), is.size))
+      (largest.many k (there k l))).1
 
   pub all-made : AreMadeOver rows free now count found
   all-made = record {
@@ -360,12 +349,14 @@ module _ (rows : List ProblemRow) (free : List Bool) (now : Hour) (count : ℕ) 
     falls = λ j k before l. omega (arith, children j (omega (arith, before, l)), children k l, largest.falls j k before (there k l));
     rest = λ d l may out.
         let one : slice_index worth d ≡ free_children rows free d = worth-all rows free now.heats.items worth d is l may in
-        let rest = largest.rest d (omega (arith, l, is.size)) (omega (arith, one, may.many)) (λ k lk alike. out k (omega (arith, lk, size)) (same k lk ∙ alike)) in
+        let rest = largest.rest d (omega (arith, l, is.size)) (omega (arith, one, may.many))
+        (λ k lk alike. out k (omega (arith, lk, size)) (same k lk ∙ alike)) in
         (size ∙ rest.0, λ k lk. omega (arith, one, children k lk, rest.1 k (there k lk)));
   }
 
 -- one more made hour
-module _ (rows : List ProblemRow) (free : List Bool) (now : Hour) (found more : List MadeHour) (one : MadeHour) (parents : List ℕ) (i : ℕ) (more_is : more ≡ found ++ one ∷ [])
+module _ (rows : List ProblemRow) (free : List Bool) (now : Hour) (found more : List MadeHour) (one : MadeHour) (parents : List ℕ) (i : ℕ)
+    (more_is : more ≡ found ++ one ∷ [])
     (size : length found ≡ i) where
   pub made-each : IsMadeHour rows free now one → ((k : ℕ) (other : MadeHour) → slice_get found k ≡ Some other → IsMadeHour rows free now other)
       → (k : ℕ) (other : MadeHour) → slice_get more k ≡ Some other → IsMadeHour rows free now other
@@ -373,7 +364,8 @@ module _ (rows : List ProblemRow) (free : List Bool) (now : Hour) (found more : 
       ⊎_elim (λ (old : slice_get found k ≡ Some other). before k other old) (λ (new : one ≡ other). subst (IsMadeHour rows free now) new is)
       (get_either found one other k (sym (ap (λ (xs : List MadeHour). slice_get xs k) more_is) ∙ there))
 
-  pub made-parents : one.parent ≡ slice_index parents i → ((k : ℕ) → k < i → made_parent found k ≡ slice_index parents k) → (k : ℕ) → k < i + 1 → made_parent more k ≡ slice_index parents k
+  pub made-parents : one.parent ≡ slice_index parents i → ((k : ℕ) → k < i → made_parent found k ≡ slice_index parents k) → (k : ℕ)
+      → k < i + 1 → made_parent more k ≡ slice_index parents k
   made-parents last before k l =
       ap (λ (xs : List MadeHour). made_parent xs k) more_is
       ∙ ⊎_elim (λ (end : k ≡ i).

@@ -1,5 +1,6 @@
 -- No load of the largest first is far above the mean.
-use Rattle.std.proofs.Common.{◌≡◌, ◌∙◌, ◌+◌, ◌*◌, ◌<◌, ◌≤◌, ◌^◌, ◌&&◌, ◌==◌, ◌⊎◌, ℕ, zero, suc, Bool, true, false, List, length, get_or, slice_index, cond, inl, inr, ⊎_elim, ap, arith, sym}
+use Rattle.std.proofs.Common.{◌≡◌, ◌∙◌, ◌+◌, ◌*◌, ◌<◌, ◌≤◌, ◌^◌, ◌&&◌, ◌==◌, ◌⊎◌, ℕ, zero, suc, Bool}
+use Rattle.std.proofs.Common.{true, false, List, length, get_or, slice_index, cond, inl, inr, ⊎_elim, ap, arith, sym}
 use Rattle.std.proofs.lemmas.Bool.{cases_Bool}
 use Rattle.mds_types.specs.RankSet.{has_rank, rank_count}
 use Rattle.mds_types.specs.Sums.{count_below, max_below, sum_below}
@@ -38,7 +39,8 @@ total-mono ranks f g h =
     ⊎_elim (λ (is : has_rank ranks r ≡ true). rw is (h r is)) (λ (is : has_rank ranks r ≡ false). rw is (omega arith)) (cases_Bool (has_rank ranks r)))
 
 -- as much more at each rank
-times_more : (n c : ℕ) (has : ℕ → Bool) (f : ℕ → ℕ) → sum_below n (λ r. cond (has r) (f r + c) 0) ≡ sum_below n (λ r. cond (has r) (f r) 0) + c * count_below n has
+times_more : (n c : ℕ) (has : ℕ → Bool) (f : ℕ → ℕ)
+    → sum_below n (λ r. cond (has r) (f r + c) 0) ≡ sum_below n (λ r. cond (has r) (f r) 0) + c * count_below n has
 times_more zero c has f = omega arith
 times_more (suc n) c has f =
     ⊎_elim (λ (is : has n ≡ true). rw is (omega (arith, times_more n c has f)))
@@ -86,7 +88,8 @@ total-parts ranks hours heats rank usable =
     (λ h l. total-load ranks (pinned_in hours h) (length heats) (heat_in hours h) (slice_index rank) usable)
 
 -- some parts load no more than all
-by-some : (hours : List Hour) (heats rank : List ℕ) (some : ℕ → Bool) (h r : ℕ) → load_by hours heats rank some h r ≤ load_in hours (length heats) (slice_index rank) h r
+by-some : (hours : List Hour) (heats rank : List ℕ) (some : ℕ → Bool) (h r : ℕ)
+    → load_by hours heats rank some h r ≤ load_in hours (length heats) (slice_index rank) h r
 by-some hours heats rank some h r =
     let sums : sum_below (length heats) (λ q. cond (some q && (get_or rank q 0 == r)) (heat_in hours h q) 0)
     ≤ sum_below (length heats) (λ q. cond (get_or rank q 0 == r) (heat_in hours h q) 0) =
@@ -100,7 +103,8 @@ by-some hours heats rank some h r =
     fewer false false x = omega arith
 
 -- a load is no more than all that there is
-pub load-small : (hours : List Hour) (heats rank : List ℕ) (some : ℕ → Bool) (h r : ℕ) → load_by hours heats rank some h r ≤ pinned_at hours h r + sum_below (length heats) (heat_in hours h)
+pub load-small : (hours : List Hour) (heats rank : List ℕ) (some : ℕ → Bool) (h r : ℕ)
+    → load_by hours heats rank some h r ≤ pinned_at hours h r + sum_below (length heats) (heat_in hours h)
 load-small hours heats rank some h r =
     let sums : sum_below (length heats) (λ q. cond (some q && (get_or rank q 0 == r)) (heat_in hours h q) 0) ≤ sum_below (length heats) (heat_in hours h) =
     sum_below-le (length heats) (λ q. cond (some q && (get_or rank q 0 == r)) (heat_in hours h q) 0) (heat_in hours h)
@@ -111,14 +115,16 @@ load-small hours heats rank some h r =
     fewer true x = omega arith
     fewer false x = omega arith
 
-pub worst-small : (hours : List Hour) (heats rank : List ℕ) (r : ℕ) → AreHours hours (length heats) → r < 64 → load_of_parts hours heats rank r ≤ 2 ^ 57 + 2 ^ 56
+pub worst-small : (hours : List Hour) (heats rank : List ℕ) (r : ℕ) → AreHours hours (length heats) → r < 64
+    → load_of_parts hours heats rank r ≤ 2 ^ 57 + 2 ^ 56
 worst-small hours heats rank r are small = max_below-le (length hours) (2 ^ 57 + 2 ^ 56) (λ h. load_in hours (length heats) (slice_index rank) h r) (λ h l.
     omega (arith, load-small hours heats rank (λ q. true) h r, pinned-small hours h r are.pinned l small, are.total h l))
 
 -- a part that goes where it makes the least load
 pub fair-least : (ranks : ℕ) (hours : List Hour) (heats rank : List ℕ) (some : ℕ → Bool) (load : ℕ → ℕ) (k to : ℕ) → k < length heats → AreGreatest hours heats
     → ((p : ℕ) → p < length heats → has_rank ranks (slice_index rank p) ≡ true)
-    → ((r : ℕ) → r < 64 → load r ≡ worst hours (λ h. load_by hours heats rank some h r + heat_in hours h k)) → ((r : ℕ) → has_rank ranks r ≡ true → load to ≤ load r)
+    → ((r : ℕ) → r < 64 → load r ≡ worst hours (λ h. load_by hours heats rank some h r + heat_in hours h k))
+    → ((r : ℕ) → has_rank ranks r ≡ true → load to ≤ load r)
     → load to * rank_count ranks ≤ all_of_parts ranks hours heats + hottest_of heats * rank_count ranks
 fair-least ranks hours heats rank some load k to inside greatest usable is least =
     let m : ℕ = rank_count ranks in
@@ -127,8 +133,16 @@ fair-least ranks hours heats rank some load k to inside greatest usable is least
     let first : load to * m ≤ total_of ranks load = total-ge ranks (load to) load least in
     let each : (r : ℕ) → has_rank ranks r ≡ true → load r ≤ all r + hottest_of heats = λ r has.
     let sums : sum_below (length hours) (λ h. load_by hours heats rank some h r) ≤ all r =
-    sum_below-le (length hours) (λ h. load_by hours heats rank some h r) (λ h. load_in hours (length heats) (slice_index rank) h r) (λ h l. by-some hours heats rank some h r) in
-    omega (arith, is r (rank-small ranks r has), max-sums (length hours) (λ h. load_by hours heats rank some h r) (λ h. heat_in hours h k), greatest k inside, hot, sums) in
+    sum_below-le (length hours) (λ h. load_by hours heats rank some h r) (λ h. load_in hours (length heats) (slice_index rank) h r)
+    (λ h l. by-some hours heats rank some h r) in
+    omega (
+      arith,
+      is r (rank-small ranks r has),
+      max-sums (length hours) (λ h. load_by hours heats rank some h r) (λ h. heat_in hours h k),
+      greatest k inside,
+      hot,
+      sums,
+    ) in
     let second : total_of ranks load ≤ total_of ranks (λ r. all r + hottest_of heats) = total-mono ranks load (λ r. all r + hottest_of heats) each in
     omega (arith, first, second, total-more ranks (hottest_of heats) all, total-parts ranks hours heats rank usable)
 

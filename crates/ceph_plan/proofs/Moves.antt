@@ -75,8 +75,12 @@ once_at rows low old new at i r are l between (inl near) = elim (once rows low o
 once_at rows low old new at i r are l between (inr free) =
     inl (inr (record { none = λ n. low_none low old new at (climb rows n i) between (free.0.none n) }, free.1))
 
-pub set_at : (rows : List PinRow) (old new : ℕ → Option ℕ) (at i r : ℕ) → AreRows rows → i < length rows → IsAt rows (while_set old new at) i r → IsAt rows old i r ⊎ IsAt rows new i r
-set_at rows old new at i r are l there = elim (once_at rows old old new at i r are l (λ j new_none old_none. old_none) there) [ inl before ↦ inl before | inr either ↦ either ]
+pub set_at : (rows : List PinRow) (old new : ℕ → Option ℕ) (at i r : ℕ) → AreRows rows → i < length rows
+    → IsAt rows (while_set old new at) i r → IsAt rows old i r ⊎ IsAt rows new i r
+set_at rows old new at i r are l there = elim (once_at rows old old new at i r are l (λ j new_none old_none. old_none) there)
+    [ inl before ↦ inl before | inr either ↦ either ]
 
-pub unset_at : (rows : List PinRow) (old new : ℕ → Option ℕ) (at i r : ℕ) → AreRows rows → i < length rows → IsAt rows (while_unset old new at) i r → IsAt rows old i r ⊎ IsAt rows new i r
-unset_at rows old new at i r are l there = elim (once_at rows new old new at i r are l (λ j new_none old_none. new_none) there) [ inl after ↦ inr after | inr either ↦ either ]
+pub unset_at : (rows : List PinRow) (old new : ℕ → Option ℕ) (at i r : ℕ) → AreRows rows → i < length rows
+    → IsAt rows (while_unset old new at) i r → IsAt rows old i r ⊎ IsAt rows new i r
+unset_at rows old new at i r are l there = elim (once_at rows new old new at i r are l (λ j new_none old_none. new_none) there)
+    [ inl after ↦ inr after | inr either ↦ either ]

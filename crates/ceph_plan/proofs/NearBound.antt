@@ -51,8 +51,10 @@ allowed-more keep low high le =
     let times : keep * (low / 100) ≤ keep * (high / 100) = mul-le-mul_left keep parts in
     omega (arith, le, times)
 
-pub near-bound : (ranks : ℕ) (hours : List Hour) (rows : List ProblemRow) (wanted : Wanted) (limit h bound load : ℕ) (divided : Planned) (choice : IsPlanChoice ranks hours rows wanted divided)
-    → IsLimit wanted.keep choice.divisions limit → h < length hours → IsBoundOf ranks (pinned_in hours h) (length rows) (heat_in hours h) bound → load ≤ allowed wanted.keep bound → load ≤ limit
+pub near-bound : (ranks : ℕ) (hours : List Hour) (rows : List ProblemRow) (wanted : Wanted) (limit h bound load : ℕ) (divided : Planned)
+    (choice : IsPlanChoice ranks hours rows wanted divided)
+    → IsLimit wanted.keep choice.divisions limit → h < length hours
+    → IsBoundOf ranks (pinned_in hours h) (length rows) (heat_in hours h) bound → load ≤ allowed wanted.keep bound → load ≤ limit
 near-bound ranks hours rows wanted limit h bound load divided choice limit_is inside lower near =
     let divisions : List PackedDivision = choice.divisions in
     let cool : AreCool divisions = are-cool ranks hours rows wanted.parts divisions choice.tried in
@@ -66,5 +68,6 @@ near-bound ranks hours rows wanted limit h bound load divided choice limit_is in
     ap (λ (o : Option PackedDivision). option_map_or (λ (d : PackedDivision). d.packings.even) o 0) one.1 ∙ sym is.even_is in
     let least : bound ≤ packed.0.packing.even =
     bound-even ranks hours rows one.0.part.items one.0.count h bound packed.0.packing of.2.division.below is.balanced inside lower in
-    let more : allowed wanted.keep bound ≤ allowed wanted.keep (even_at divisions k) = allowed-more wanted.keep bound (even_at divisions k) (omega (arith, least, even)) in
+    let more : allowed wanted.keep bound ≤ allowed wanted.keep (even_at divisions k) =
+    allowed-more wanted.keep bound (even_at divisions k) (omega (arith, least, even)) in
     omega (arith, near, more, limit_is.is)

@@ -24,7 +24,8 @@ module _ (ranks : ℕ) (rows : List ProblemRow) (pinned weights : List ℕ) (hou
   first = omega (arith, one.one)
 
   same-heats : heats_in found.hours.items 0 ≡ heats_in hours 0
-  same-heats = counts-all (length hours) (slice_index found.bounds.items 0) (slice_index weights 0) (heats_in hours 0) (heats_in found.hours.items 0) one.one (are.heats 0 first)
+  same-heats = counts-all (length hours) (slice_index found.bounds.items 0) (slice_index weights 0) (heats_in hours 0)
+      (heats_in found.hours.items 0) one.one (are.heats 0 first)
 
   row-same : (i : ℕ) → i < length rows → row_at found.rows.items i ≡ row_at rows i
   row-same i l =
@@ -39,7 +40,8 @@ module _ (ranks : ℕ) (rows : List ProblemRow) (pinned weights : List ℕ) (hou
   pub one-shares : IsOneHour rows pinned found.hours.items
   one-shares = record {
     one = are.size ∙ one.one;
-    pinned_is = counts-all (length hours) (slice_index found.bounds.items 0) (slice_index weights 0) (pinned_in hours 0) (pinned_in found.hours.items 0) one.one (are.pinned 0 first)
+    pinned_is = counts-all (length hours) (slice_index found.bounds.items 0) (slice_index weights 0) (pinned_in hours 0)
+        (pinned_in found.hours.items 0) one.one (are.pinned 0 first)
         ∙ one.pinned_is;
     size = ap length same-heats ∙ one.size;
     heats = λ i l. ap (λ (xs : List ℕ). slice_index xs i) same-heats ∙ one.heats i l;

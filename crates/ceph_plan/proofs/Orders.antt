@@ -1,5 +1,6 @@
 -- Parts that were sorted by their heat.
-use Rattle.std.proofs.Common.{All, ◌≡◌, ◌≢◌, ◌∙◌, ◌+◌, ◌-◌, ◌<◌, ◌≤◌, ◌⊎◌, ℕ, zero, suc, Ordering, Equal, true, false, List, [], ◌∷◌, ◌++◌, length, map, get_or, slice_index, nat_cmp, inl, inr, ⊎_elim, ap, arith, refl, subst, sym}
+use Rattle.std.proofs.Common.{All, ◌≡◌, ◌≢◌, ◌∙◌, ◌+◌, ◌-◌, ◌<◌, ◌≤◌, ◌⊎◌, ℕ, zero, suc, Ordering, Equal, true, false, List}
+use Rattle.std.proofs.Common.{[], ◌∷◌, ◌++◌, length, map, get_or, slice_index, nat_cmp, inl, inr, ⊎_elim, ap, arith, refl, subst, sym}
 use Rattle.std.specs.List.Sorted.{IsPermutation, IsSorted}
 use Rattle.std.specs.Ordering.{is_lt, ordering_then}
 use Rattle.std.proofs.lemmas.Bool.{and_from, both_ways, cases_eq, cases_lt, eq-eqb, le-ltb, lt-ltb, or_left, or_right}
@@ -53,7 +54,8 @@ far xs up (suc n) k d l =
     (up-through (get_or xs k d) (get_or xs (k + n) d) (get_or xs (k + n + 1) d) (far xs up n k d (omega (arith, l)))
     (up-from (get_or xs (k + n) d) (get_or xs (k + n + 1) d) (up (k + n) d (omega arith) (omega (arith, l)))))
 
-hotter-from : (heats : List ℕ) (a b : PartHeat) (p q : ℕ) → p ≡ a.part.0 → q ≡ b.part.0 → a.heat ≡ slice_index heats a.part.0 → b.heat ≡ slice_index heats b.part.0
+hotter-from : (heats : List ℕ) (a b : PartHeat) (p q : ℕ) → p ≡ a.part.0 → q ≡ b.part.0 → a.heat ≡ slice_index heats a.part.0
+    → b.heat ≡ slice_index heats b.part.0
     → p ≢ q → IsUpTo a b → is_hotter heats q p ≡ true
 hotter-from heats a b p q p_is q_is a_heat b_heat apart (inl less) =
     let here : slice_index heats p ≡ a.heat = ap (slice_index heats) p_is ∙ sym a_heat in

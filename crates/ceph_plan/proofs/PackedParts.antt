@@ -1,13 +1,16 @@
 -- The packing with one more part.
-use Rattle.std.proofs.Common.{◌/◌, ◌≡◌, ◌≢◌, ◌∙◌, ◌+◌, ◌*◌, ◌<◌, ◌≤◌, ◌&&◌, ◌||◌, ◌==◌, ℕ, zero, suc, Bool, true, false, List, length, length-set, get_or, set, slice_index, cond, eqb, nat_lt, inl, inr, ⊎_elim, ap, arith, refl, replicate, subst, sym}
+use Rattle.std.proofs.Common.{◌/◌, ◌≡◌, ◌≢◌, ◌∙◌, ◌+◌, ◌*◌, ◌<◌, ◌≤◌, ◌&&◌, ◌||◌, ◌==◌, ℕ, zero, suc, Bool, true, false, List}
+use Rattle.std.proofs.Common.{length, length-set, get_or, set, slice_index, cond, eqb, nat_lt, inl, inr, ⊎_elim, ap, arith, refl, replicate, subst, sym}
 use Rattle.std.proofs.Math.Nat.{le_of_eq, le_of_lt, mul-le-mul_left}
-use Rattle.std.proofs.lemmas.Bool.{and_parts, both_ways, cases_Bool, cases_eq, cases_lt, eq-eqb, eqb-true, le-ltb, ltb-true, ne_eqb, or_cases, or_from, or_left, or_right}
+use Rattle.std.proofs.lemmas.Bool.{and_parts, both_ways, cases_Bool, cases_eq, cases_lt, eq-eqb, eqb-true}
+use Rattle.std.proofs.lemmas.Bool.{le-ltb, ltb-true, ne_eqb, or_cases, or_from, or_left, or_right}
 use Rattle.std.proofs.lemmas.List.{get_or-replicate, get_or-set_other, get_or-set_same, get_or_default, length-replicate}
 use Rattle.mds_types.specs.RankSet.{has_rank}
 use Rattle.mds_types.specs.Sums.{sum_below}
 use Rattle.mds_types.proofs.SumsLemmas.{sum_below-add, sum_below-pick, sum_below-same, sum_below-term, sum_below-zero}
 use Rattle.ceph_plan.specs.declared.hours.Hour.{Hour}
-use Rattle.ceph_plan.specs.Balance.{AreGreatest, CanTake, HaveRanks, IsEvened, IsKeptWithin, IsLargestFirst, IsNearMean, IsByHeat, IsSent, allowed, goes_before, greatest_by, is_hotter, load_by, load_of_parts, load_with, made}
+use Rattle.ceph_plan.specs.Balance.{AreGreatest, CanTake, HaveRanks, IsEvened, IsKeptWithin, IsLargestFirst, IsNearMean, IsByHeat, IsSent}
+use Rattle.ceph_plan.specs.Balance.{allowed, goes_before, greatest_by, is_hotter, load_by, load_of_parts, load_with, made}
 use Rattle.ceph_plan.specs.Packing.{AreHours, heat_in, load_in, pinned_at, worst}
 use Rattle.ceph_plan.proofs.Bounds.{rank-small, set_usable}
 use Rattle.ceph_plan.proofs.HourSums.{max-least, max-same, pinned-small}
@@ -40,7 +43,8 @@ colder : (a b q p : ℕ) → (nat_lt a b || ((a == b) && nat_lt q p)) ≡ true �
 colder a b q p is =
     ⊎_elim (λ (less : nat_lt a b ≡ true).
     let lt : a < b = ltb-true a b less in
-    or_from (nat_lt b a) ((b == a) && nat_lt p q) (le-ltb b a (le_of_lt lt)) (ap (λ (x : Bool). x && nat_lt p q) (ne_eqb b a (λ same. let none : ⊥ = omega (arith, lt, same) in none))))
+    or_from (nat_lt b a) ((b == a) && nat_lt p q) (le-ltb b a (le_of_lt lt))
+    (ap (λ (x : Bool). x && nat_lt p q) (ne_eqb b a (λ same. let none : ⊥ = omega (arith, lt, same) in none))))
     (λ (both : ((a == b) && nat_lt q p) ≡ true).
     let parts = and_parts (a == b) (nat_lt q p) both in
     let same : a ≡ b = eqb-true a b parts.0 in
@@ -62,7 +66,8 @@ load-same : (hours : List Hour) (heats rank others : List ℕ) (some those : ℕ
     → load_by hours heats rank some h r ≡ load_by hours heats others those h r
 load-same hours heats rank others some those h r same =
     ap (λ (x : ℕ). pinned_at hours h r + x)
-    (sum_below-same (length heats) (λ q. cond (some q && (get_or rank q 0 == r)) (heat_in hours h q) 0) (λ q. cond (those q && (get_or others q 0 == r)) (heat_in hours h q) 0)
+    (sum_below-same (length heats) (λ q. cond (some q && (get_or rank q 0 == r)) (heat_in hours h q) 0)
+    (λ q. cond (those q && (get_or others q 0 == r)) (heat_in hours h q) 0)
     (λ q l. ap (λ (b : Bool). cond b (heat_in hours h q) 0) (same q l)))
 
 sent-same : (ranks : ℕ) (load other : ℕ → ℕ) (inodes : List ℕ) (p limit to : ℕ) → ((r : ℕ) → r < 64 → load r ≡ other r) → to < 64
@@ -80,18 +85,22 @@ sent-same ranks load other inodes p limit to same small sent = record {
 }
 
 -- where a part goes the load is fair
-fair-there : (ranks : ℕ) (hours : List Hour) (heats inodes : List ℕ) (root limit : ℕ) (rank : List ℕ) (done : List Bool) (loads : List ℕ) (k to : ℕ) → k < length heats
+fair-there : (ranks : ℕ) (hours : List Hour) (heats inodes : List ℕ) (root limit : ℕ) (rank : List ℕ) (done : List Bool) (loads : List ℕ)
+    (k to : ℕ) → k < length heats
     → AreGreatest hours heats → ((p : ℕ) → p < length heats → has_rank ranks (slice_index rank p) ≡ true)
     → ((h r : ℕ) → h < length hours → r < 64 → slice_index loads (h * 64 + r) ≡ load_by hours heats rank (is_done done) h r)
     → IsSent ranks (made hours loads k) inodes k limit to
     → IsFairLoad ranks hours heats root limit to (made hours loads k to)
 fair-there ranks hours heats inodes root limit rank done loads k to inside greatest usable are sent = elim sent.goes [
   | inl kept ↦ inr (inr (inl (subst (λ (t : ℕ). made hours loads k t ≤ limit) (sym kept.2) kept.1)))
-  | inr moved ↦ inr (inr (inr (fair-least ranks hours heats rank (is_done done) (made hours loads k) k to inside greatest usable (λ r small. with-done r small) moved.1)))
+  | inr moved ↦ inr (inr (inr
+      (fair-least ranks hours heats rank (is_done done) (made hours loads k) k to inside greatest usable (λ r small. with-done r small)
+      moved.1)))
 ]
   where
     with-done : (r : ℕ) → r < 64 → made hours loads k r ≡ worst hours (λ h. load_by hours heats rank (is_done done) h r + heat_in hours h k)
-    with-done r small = max-same (length hours) (λ h. slice_index loads (h * 64 + r) + heat_in hours h k) (λ h. load_by hours heats rank (is_done done) h r + heat_in hours h k)
+    with-done r small = max-same (length hours) (λ h. slice_index loads (h * 64 + r) + heat_in hours h k)
+        (λ h. load_by hours heats rank (is_done done) h r + heat_in hours h k)
         (λ h l. ap (λ (x : ℕ). x + heat_in hours h k) (are h r l small))
 
 add-zero : (x : ℕ) → x + 0 ≡ x
@@ -106,20 +115,26 @@ sum-set n k x f g inside here others =
     (cases_eq q k))
     ∙ (sum_below-add n g (λ q. cond (eqb k q) x 0) ∙ ap (λ (y : ℕ). sum_below n g + y) (sum_below-pick n k (λ q. x) inside))
 
-load-set : (hours : List Hour) (heats rank : List ℕ) (done : List Bool) (k to h r : ℕ) → k < length heats → length rank ≡ length heats → length done ≡ length heats → is_done done k ≡ false
+load-set : (hours : List Hour) (heats rank : List ℕ) (done : List Bool) (k to h r : ℕ) → k < length heats → length rank ≡ length heats
+    → length done ≡ length heats → is_done done k ≡ false
     → load_by hours heats (set rank k to) (is_done (set done k true)) h r ≡ load_by hours heats rank (is_done done) h r + cond (eqb to r) (heat_in hours h k) 0
 load-set hours heats rank done k to h r inside ranks size new =
     let x : ℕ = cond (eqb to r) (heat_in hours h k) 0 in
     let f : ℕ → ℕ = λ q. cond (get_or (set done k true) q false && (get_or (set rank k to) q 0 == r)) (heat_in hours h q) 0 in
     let g : ℕ → ℕ = λ q. cond (get_or done q false && (get_or rank q 0 == r)) (heat_in hours h q) 0 in
-    let here : f k ≡ g k + x = rw (get_or-set_same done k true false (omega (arith, inside, size)), get_or-set_same rank k to 0 (omega (arith, inside, ranks)), new) (omega arith) in
+    let here : f k ≡ g k + x = rw (
+      get_or-set_same done k true false (omega (arith, inside, size)),
+      get_or-set_same rank k to 0 (omega (arith, inside, ranks)),
+      new,
+    ) (omega arith) in
     let others : (q : ℕ) → q < length heats → q ≢ k → f q ≡ g q = λ q l other.
     rw (get_or-set_other done k q true false other, get_or-set_other rank k q to 0 other) refl in
     let sums : sum_below (length heats) f ≡ sum_below (length heats) g + x = sum-set (length heats) k x f g inside here others in
     omega (arith, sums)
 
 -- of the part that is next: those before it are done
-before-next : (heats : List ℕ) (root k q : ℕ) (done : List Bool) → is_done done root ≡ true → q < length heats → k < length heats → q ≢ k → is_done done k ≡ false
+before-next : (heats : List ℕ) (root k q : ℕ) (done : List Bool) → is_done done root ≡ true → q < length heats → k < length heats → q ≢ k
+    → is_done done k ≡ false
     → ((q p : ℕ) → q < length heats → p < length heats → q ≢ root → is_done done q ≡ true → is_done done p ≡ false → is_hotter heats q p ≡ true)
     → ((q : ℕ) → q < length heats → q ≢ k → is_done done q ≡ false → is_hotter heats k q ≡ true)
     → goes_before heats root q k ≡ is_done done q
@@ -171,10 +186,13 @@ all-done heats order done ordered rest q l =
     let place = place_of order q (length heats) (ordered.each q l) in
     ap (is_done done) (sym place.2) ∙ rest place.0 (omega arith) place.1
 
-pub packed-more : (ranks : ℕ) (hours : List Hour) (heats inodes order : List ℕ) (root limit : ℕ) (rank : List ℕ) (done : List Bool) (loads : List ℕ) (left next k to : ℕ) (more : List ℕ)
+pub packed-more : (ranks : ℕ) (hours : List Hour) (heats inodes order : List ℕ) (root limit : ℕ) (rank : List ℕ) (done : List Bool)
+    (loads : List ℕ) (left next k to : ℕ) (more : List ℕ)
     → ArePacked ranks hours heats inodes order root limit rank done loads left → next < length heats → k ≡ slice_index order next → is_done done k ≡ false
     → has_rank ranks to ≡ true → AreGreatest hours heats → IsSent ranks (made hours loads k) inodes k limit to
-    → length more ≡ length loads → ((h r : ℕ) → h < length hours → r < 64 → slice_index more (h * 64 + r) ≡ slice_index loads (h * 64 + r) + cond (eqb to r) (heat_in hours h k) 0) → left ≡ next + 1
+    → length more ≡ length loads
+    → ((h r : ℕ) → h < length hours → r < 64 → slice_index more (h * 64 + r)
+    ≡ slice_index loads (h * 64 + r) + cond (eqb to r) (heat_in hours h k) 0) → left ≡ next + 1
     → ArePacked ranks hours heats inodes order root limit (set rank k to) (set done k true) more next
 packed-more ranks hours heats inodes order root limit rank done loads left next k to more before there is new has greatest sent size added less =
     let n : ℕ = length heats in
@@ -190,7 +208,8 @@ packed-more ranks hours heats inodes order root limit rank done loads left next 
     (λ h. load_by hours heats (set rank k to) (λ q. goes_before heats root q k) h r + heat_in hours h k)
     (λ h lh. ap (λ (x : ℕ). x + heat_in hours h k)
     (before.loads_are h r lh small ∙ load-same hours heats rank (set rank k to) (is_done done) (λ q. goes_before heats root q k) h r (λ q l.
-    ⊎_elim (λ (same : q ≡ k). subst (λ (j : ℕ). (is_done done j && (get_or rank j 0 == r)) ≡ (goes_before heats root j k && (get_or (set rank k to) j 0 == r))) (sym same)
+    ⊎_elim (λ (same : q ≡ k). subst (λ (j : ℕ). (is_done done j && (get_or rank j 0 == r))
+    ≡ (goes_before heats root j k && (get_or (set rank k to) j 0 == r))) (sym same)
     (rw (new, not-before heats root k k later (hotter-self heats k)) refl))
     (λ (other : q ≢ k). rw (get_or-set_other rank k q to 0 other, before-next heats root k q done before.root_done l inside other new before.ahead first) refl)
     (cases_eq q k)))) in
@@ -200,7 +219,8 @@ packed-more ranks hours heats inodes order root limit rank done loads left next 
     (λ h. load_by hours heats (set rank k to) (λ q. goes_before heats root q p) h r + heat_in hours h p)
     (λ h lh. ap (λ (x : ℕ). x + heat_in hours h p)
     (load-same hours heats rank (set rank k to) (λ q. goes_before heats root q p) (λ q. goes_before heats root q p) h r (λ q l.
-    ⊎_elim (λ (same : q ≡ k). subst (λ (j : ℕ). (goes_before heats root j p && (get_or rank j 0 == r)) ≡ (goes_before heats root j p && (get_or (set rank k to) j 0 == r))) (sym same)
+    ⊎_elim (λ (same : q ≡ k). subst (λ (j : ℕ). (goes_before heats root j p && (get_or rank j 0 == r))
+    ≡ (goes_before heats root j p && (get_or (set rank k to) j 0 == r))) (sym same)
     (rw (not-before heats root k p later (hotter-not heats p k (before.ahead p k lp inside below was new))) refl))
     (λ (other : q ≢ k). rw (get_or-set_other rank k q to 0 other) refl)
     (cases_eq q k)))) in
@@ -213,7 +233,12 @@ packed-more ranks hours heats inodes order root limit rank done loads left next 
       size = length-set done k true ∙ before.size;
       root_done = get_or-set_other done k root true false (λ same. later (sym same)) ∙ before.root_done;
       loads_size = size ∙ before.loads_size;
-      loads_are = λ h r lh small. omega (arith, added h r lh small, before.loads_are h r lh small, load-set hours heats rank done k to h r inside ranks_size before.size new);
+      loads_are = λ h r lh small. omega (
+        arith,
+        added h r lh small,
+        before.loads_are h r lh small,
+        load-set hours heats rank done k to h r inside ranks_size before.size new,
+      );
       ahead = λ q p lq lp below is not.
           let other : p ≢ k = λ same. both_ways (is_done (set done k true) p) not (ap (is_done (set done k true)) same ∙ now_done) in
           let not_before : is_done done p ≡ false = sym (get_or-set_other done k p true false other) ∙ not in
@@ -243,7 +268,8 @@ packed-more ranks hours heats inodes order root limit rank done loads left next 
           (λ (other : r ≢ to).
           let sum : worst hours (λ h. slice_index more (h * 64 + r)) ≡ worst hours (λ h. slice_index loads (h * 64 + r)) =
           max-same (length hours) (λ h. slice_index more (h * 64 + r)) (λ h. slice_index loads (h * 64 + r)) (λ h lh.
-          added h r lh small ∙ (ap (λ (b : Bool). slice_index loads (h * 64 + r) + cond b (heat_in hours h k) 0) (ne_eqb to r (λ same. other (sym same))) ∙ add-zero (slice_index loads (h * 64 + r)))) in
+          added h r lh small ∙ (ap (λ (b : Bool). slice_index loads (h * 64 + r) + cond b (heat_in hours h k) 0)
+          (ne_eqb to r (λ same. other (sym same))) ∙ add-zero (slice_index loads (h * 64 + r)))) in
           subst (λ (x : ℕ). IsFairLoad ranks hours heats root limit r x) (sym sum) (before.fair r is))
           (cases_eq r to);
       ordered = before.ordered;
@@ -257,7 +283,8 @@ packed-more ranks hours heats inodes order root limit rank done loads left next 
     }
 
 -- the part that is next is done already
-pub packed-none : (ranks : ℕ) (hours : List Hour) (heats inodes order : List ℕ) (root limit : ℕ) (rank : List ℕ) (done : List Bool) (loads : List ℕ) (left next : ℕ)
+pub packed-none : (ranks : ℕ) (hours : List Hour) (heats inodes order : List ℕ) (root limit : ℕ) (rank : List ℕ) (done : List Bool)
+    (loads : List ℕ) (left next : ℕ)
     → ArePacked ranks hours heats inodes order root limit rank done loads left → is_done done (slice_index order next) ≡ true → left ≡ next + 1
     → ArePacked ranks hours heats inodes order root limit rank done loads next
 packed-none ranks hours heats inodes order root limit rank done loads left next before is less = record {
@@ -279,13 +306,15 @@ packed-none ranks hours heats inodes order root limit rank done loads left next 
 
 -- the root's part is done
 pub packed-first : (ranks : ℕ) (hours : List Hour) (heats inodes order : List ℕ) (root limit : ℕ) (rank : List ℕ) (done : List Bool) (loads : List ℕ) (n : ℕ)
-    → IsByHeat heats order → n ≡ length heats → root < n → has_rank ranks 0 ≡ true → rank ≡ replicate n 0 → done ≡ replicate n false → length loads ≡ length hours * 64
+    → IsByHeat heats order → n ≡ length heats → root < n → has_rank ranks 0 ≡ true → rank ≡ replicate n 0 → done ≡ replicate n false
+    → length loads ≡ length hours * 64
     → ((h r : ℕ) → h < length hours → r < 64 → slice_index loads (h * 64 + r) ≡ pinned_at hours h r + cond (eqb 0 r) (heat_in hours h root) 0)
     → ArePacked ranks hours heats inodes order root limit rank (set done root true) loads n
 packed-first ranks hours heats inodes order root limit rank done loads n ordered size_is inside has rank_is done_is size added =
     let marks : length done ≡ n = ap length done_is ∙ length-replicate n false in
     let zeros : (p : ℕ) → p < n → get_or rank p 0 ≡ 0 = λ p l. ap (λ (xs : List ℕ). get_or xs p 0) rank_is ∙ get_or-replicate n p 0 0 l in
-    let falses : (p : ℕ) → p < n → get_or done p false ≡ false = λ p l. ap (λ (xs : List Bool). get_or xs p false) done_is ∙ get_or-replicate n p false false l in
+    let falses : (p : ℕ) → p < n → get_or done p false ≡ false = λ p l. ap (λ (xs : List Bool). get_or xs p false) done_is
+    ∙ get_or-replicate n p false false l in
     let only : (q : ℕ) → q < length heats → q ≢ root → is_done (set done root true) q ≡ false = λ q l other.
     get_or-set_other done root q true false other ∙ falses q (omega (arith, l, size_is)) in
     let there : is_done (set done root true) root ≡ true = get_or-set_same done root true false (omega (arith, marks, inside)) in
@@ -308,8 +337,11 @@ packed-first ranks hours heats inodes order root limit rank done loads n ordered
       ahead = λ q p lq lp later is not. absurd (both_ways (is_done (set done root true) q) (only q lq later) is);
       sent = λ p l later is. absurd (both_ways (is_done (set done root true) p) (only p l later) is);
       fair = λ r is.
-          ⊎_elim (λ (same : r ≡ 0). inr (inl (subst (λ (t : ℕ). worst hours (λ h. slice_index loads (h * 64 + t)) ≤ worst hours (λ h. pinned_at hours h 0 + heat_in hours h root)) (sym same)
-          (max-least (length hours) (λ h. slice_index loads (h * 64 + 0)) (λ h. pinned_at hours h 0 + heat_in hours h root) (λ h lh. omega (arith, added h 0 lh (omega arith)))))))
+          ⊎_elim (λ (same : r ≡ 0). inr
+          (inl (subst (λ (t : ℕ). worst hours (λ h. slice_index loads (h * 64 + t)) ≤ worst hours
+          (λ h. pinned_at hours h 0 + heat_in hours h root)) (sym same)
+          (max-least (length hours) (λ h. slice_index loads (h * 64 + 0)) (λ h. pinned_at hours h 0 + heat_in hours h root)
+          (λ h lh. omega (arith, added h 0 lh (omega arith)))))))
           (λ (other : r ≢ 0). inl (max-least (length hours) (λ h. slice_index loads (h * 64 + r)) (λ h. pinned_at hours h r) (λ h lh. omega (
             arith,
             added h r lh (rank-small ranks r is),
@@ -330,7 +362,8 @@ packed-all ranks hours heats inodes order root limit rank done loads packed = re
 }
 
 pub loads-all : (ranks : ℕ) (hours : List Hour) (heats inodes order : List ℕ) (root limit : ℕ) (rank : List ℕ) (done : List Bool) (loads : List ℕ)
-    → ArePacked ranks hours heats inodes order root limit rank done loads 0 → (r : ℕ) → r < 64 → worst hours (λ h. slice_index loads (h * 64 + r)) ≡ load_of_parts hours heats rank r
+    → ArePacked ranks hours heats inodes order root limit rank done loads 0 → (r : ℕ) → r < 64
+    → worst hours (λ h. slice_index loads (h * 64 + r)) ≡ load_of_parts hours heats rank r
 loads-all ranks hours heats inodes order root limit rank done loads packed r small =
     max-same (length hours) (λ h. slice_index loads (h * 64 + r)) (λ h. load_in hours (length heats) (slice_index rank) h r) (λ h lh.
     packed.loads_are h r lh small ∙ load-same hours heats rank rank (is_done done) (λ q. true) h r (λ q l.
@@ -354,7 +387,8 @@ pub fair-all : (ranks : ℕ) (hours : List Hour) (heats inodes order : List ℕ)
     → ArePacked ranks hours heats inodes order root 0 rank done loads 0 → IsNearMean ranks hours heats root (greatest_by ranks hours heats rank)
 fair-all ranks hours heats inodes order root rank done loads packed =
     near-mean ranks hours heats rank root (λ r has.
-    subst (λ (x : ℕ). IsFairLoad ranks hours heats root 0 r x) (loads-all ranks hours heats inodes order root 0 rank done loads packed r (rank-small ranks r has)) (packed.fair r has))
+    subst (λ (x : ℕ). IsFairLoad ranks hours heats root 0 r x)
+    (loads-all ranks hours heats inodes order root 0 rank done loads packed r (rank-small ranks r has)) (packed.fair r has))
 
 -- what is read of a list, whatever is read past its end
 pub read-value : (xs ys : List ℕ) (i x : ℕ) → xs ≡ ys → i < length ys → x ≡ get_or xs i x → x ≡ get_or ys i 0
@@ -362,7 +396,8 @@ read-value xs ys i x same inside is = is ∙ (ap (λ (zs : List ℕ). get_or zs 
 
 -- and one more part can be added to each load
 pub load-room : (ranks : ℕ) (hours : List Hour) (heats inodes order : List ℕ) (root limit : ℕ) (rank : List ℕ) (done : List Bool) (loads : List ℕ) (left p : ℕ)
-    → ArePacked ranks hours heats inodes order root limit rank done loads left → AreHours hours (length heats) → p < length heats → CanTake hours (length heats) loads p
+    → ArePacked ranks hours heats inodes order root limit rank done loads left → AreHours hours (length heats) → p < length heats
+    → CanTake hours (length heats) loads p
 load-room ranks hours heats inodes order root limit rank done loads left p packed are inside = record {
   size = packed.loads_size;
   inside = inside;
@@ -378,7 +413,8 @@ load-room ranks hours heats inodes order root limit rank done loads left p packe
 }
 
 -- what is evened is no hotter
-pub cooler-evened : (ranks : ℕ) (hours : List Hour) (heats : List ℕ) (root enough : ℕ) (packed rank : List ℕ) → IsEvened ranks hours heats root enough packed rank
+pub cooler-evened : (ranks : ℕ) (hours : List Hour) (heats : List ℕ) (root enough : ℕ) (packed rank : List ℕ)
+    → IsEvened ranks hours heats root enough packed rank
     → greatest_by ranks hours heats rank ≤ greatest_by ranks hours heats packed
 cooler-evened ranks hours heats root enough packed rank evened = elim evened.cooler [
   | inl same ↦ le_of_eq (ap (greatest_by ranks hours heats) same)

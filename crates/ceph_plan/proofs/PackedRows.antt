@@ -24,14 +24,16 @@ pub record AreOfParts (hours : List Hour) (rows : List ProblemRow) (part : List 
   pub there : (p r : ℕ) → p < count → r < 64 → inodes_there inodes p r ≡ part_inodes_at rows part p r
 
 -- the same packing of the same lists
-pub parts-same : (ranks : ℕ) (parts others : List Hour) (heats inodes those them : List ℕ) (root : ℕ) (even : List ℕ) (packing : Packing) → others ≡ parts → those ≡ heats → them ≡ inodes
+pub parts-same : (ranks : ℕ) (parts others : List Hour) (heats inodes those them : List ℕ) (root : ℕ) (even : List ℕ) (packing : Packing)
+    → others ≡ parts → those ≡ heats → them ≡ inodes
     → IsPartsPacking ranks others those them root even packing → IsPartsPacking ranks parts heats inodes root even packing
 parts-same ranks parts others heats inodes those them root even packing parts_are heats_are inodes_are is =
     subst (λ (xs : List Hour). IsPartsPacking ranks xs heats inodes root even packing) parts_are
     (subst (λ (xs : List ℕ). IsPartsPacking ranks others xs inodes root even packing) heats_are
     (subst (λ (xs : List ℕ). IsPartsPacking ranks others those xs root even packing) inodes_are is))
 
-module _ (ranks : ℕ) (hours : List Hour) (rows : List ProblemRow) (part : List ℕ) (count : ℕ) (parts : List Hour) (heats inodes even : List ℕ) (packing : Packing)
+module _ (ranks : ℕ) (hours : List Hour) (rows : List ProblemRow) (part : List ℕ) (count : ℕ) (parts : List Hour)
+    (heats inodes even : List ℕ) (packing : Packing)
     (of : AreOfParts hours rows part count parts heats inodes) (is : IsPartsPacking ranks parts heats inodes (slice_index part 0) even packing) where
   by-rows : (r : ℕ) → r < 64 → slice_index packing.load.items r ≡ load hours (length rows) (packed_rank packing.rank.items part) r
   by-rows r l = is.loads r l ∙ sym (load-parts hours parts part heats packing.rank.items (length rows) count r of.size of.below of.parts_are)
@@ -64,11 +66,13 @@ module _ (ranks : ℕ) (hours : List Hour) (rows : List ProblemRow) (part : List
   }
 
 -- the packings so far, of the first of these tolerances
-pub record AreSoFar (ranks : ℕ) (hours : List Hour) (rows : List ProblemRow) (part : List ℕ) (count even : ℕ) (each : List Packed) (tolerances : List ℕ) : Type 0 where
+pub record AreSoFar (ranks : ℕ) (hours : List Hour) (rows : List ProblemRow) (part : List ℕ) (count even : ℕ) (each : List Packed)
+    (tolerances : List ℕ) : Type 0 where
   pub keeps : map (λ (packed : Packed). packed.packing.keep) each ≡ tolerances
   pub are : (v : ℕ) (packed : Packed) → slice_get each v ≡ Some packed → IsPacked ranks hours rows part count even packed
 
-pub packings-more : (ranks : ℕ) (hours : List Hour) (rows : List ProblemRow) (part : List ℕ) (count even keep : ℕ) (each : List Packed) (tolerances : List ℕ) (more : Packed)
+pub packings-more : (ranks : ℕ) (hours : List Hour) (rows : List ProblemRow) (part : List ℕ) (count even keep : ℕ) (each : List Packed)
+    (tolerances : List ℕ) (more : Packed)
     → AreSoFar ranks hours rows part count even each tolerances → more.packing.keep ≡ keep → IsPacked ranks hours rows part count even more
     → AreSoFar ranks hours rows part count even (each ++ more ∷ []) (tolerances ++ keep ∷ [])
 packings-more ranks hours rows part count even keep each tolerances more before keep_is is = record {

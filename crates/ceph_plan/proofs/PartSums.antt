@@ -1,5 +1,6 @@
 -- Sums over rows, by the parts of the rows.
-use Rattle.std.proofs.Common.{◌≡◌, ◌≢◌, ◌&&◌, ◌∙◌, ◌+◌, ◌*◌, ◌^◌, ◌<◌, ◌≤◌, ◌==◌, ℕ, Bool, true, false, List, length, get_or, set, slice_index, cond, eqb, inl, inr, ⊎_elim, ap, arith, refl, subst, sym}
+use Rattle.std.proofs.Common.{◌≡◌, ◌≢◌, ◌&&◌, ◌∙◌, ◌+◌, ◌*◌, ◌^◌, ◌<◌, ◌≤◌, ◌==◌, ℕ, Bool, true, false, List}
+use Rattle.std.proofs.Common.{length, get_or, set, slice_index, cond, eqb, inl, inr, ⊎_elim, ap, arith, refl, subst, sym}
 use Rattle.std.proofs.lemmas.Bool.{cases_eq, eq-eqb, ne_eqb}
 use Rattle.std.proofs.lemmas.List.{get_or-set_other, get_or-set_same}
 use Rattle.mds_types.specs.Sums.{max_below, sum_below}
@@ -24,7 +25,8 @@ hours-parts hours parts n count part are below of = record {
   size = λ h l. of.sizes h (inside h l);
   total = λ h l.
       let same : sum_below count (heat_in parts h) ≡ sum_below n (heat_in hours h) =
-      sum_below-same count (heat_in parts h) (λ p. sum_below n (λ i. cond (eqb (slice_index part i) p) (heat_in hours h i) 0)) (λ p lp. of.heats h p (inside h l) lp)
+      sum_below-same count (heat_in parts h) (λ p. sum_below n (λ i. cond (eqb (slice_index part i) p) (heat_in hours h i) 0))
+      (λ p lp. of.heats h p (inside h l) lp)
       ∙ by-parts count n (slice_index part) (heat_in hours h) below in
       omega (arith, same, are.total h (inside h l));
 }

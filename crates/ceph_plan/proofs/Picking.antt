@@ -15,7 +15,8 @@ less-trans a x b y c z one other =
     (λ (less : a < b).
     ⊎_elim (λ (more : b < c). inl (omega (arith, less, more))) (λ (same : (b ≡ c) × (y < z)). inl (omega (arith, less, same.0))) other)
     (λ (like : (a ≡ b) × (x < y)).
-    ⊎_elim (λ (more : b < c). inl (omega (arith, like.0, more))) (λ (same : (b ≡ c) × (y < z)). inr (omega (arith, like.0, same.0), omega (arith, like.1, same.1))) other)
+    ⊎_elim (λ (more : b < c). inl (omega (arith, like.0, more)))
+    (λ (same : (b ≡ c) × (y < z)). inr (omega (arith, like.0, same.0), omega (arith, like.1, same.1))) other)
     one
 
 -- what is less than the least comes before all others
@@ -32,7 +33,8 @@ less-than a x b y c z one never =
     (λ (le : y ≤ z).
     ⊎_elim (λ (under : a < b). inl (omega (arith, under, above)))
     (λ (like : (a ≡ b) × (x < y)).
-    ⊎_elim (λ (same : c ≡ b). inr (omega (arith, like.0, same), omega (arith, like.1, le))) (λ (apart : c ≢ b). inl (omega (arith, like.0, above, apart))) (cases_eq c b))
+    ⊎_elim (λ (same : c ≡ b). inr (omega (arith, like.0, same), omega (arith, like.1, le)))
+    (λ (apart : c ≢ b). inl (omega (arith, like.0, above, apart))) (cases_eq c b))
     one)
     (cases_lt z y))
     (cases_lt c b)
@@ -43,10 +45,12 @@ pub record IsBestSoFar (limit : ℕ) (wanted : Wanted) (candidates : List Candid
   pub size : best ≤ length candidates
   pub within : best < length candidates → greatest_at candidates best ≤ limit
   pub few : best < length candidates → IsAllowed wanted candidates best
-  pub cheapest : (v : ℕ) → v < at → greatest_at candidates v ≤ limit → IsAllowed wanted candidates v → (best < length candidates) × ¬ IsCheaperAt candidates v best
+  pub cheapest : (v : ℕ) → v < at → greatest_at candidates v ≤ limit → IsAllowed wanted candidates v
+      → (best < length candidates) × ¬ IsCheaperAt candidates v best
   pub first : (v : ℕ) → v < best → v < at → greatest_at candidates v ≤ limit → IsAllowed wanted candidates v → IsCheaperAt candidates best v
 
-module _ (limit : ℕ) (wanted : Wanted) (candidates : List Candidate) (at best : ℕ) (inside : at < length candidates) (old : IsBestSoFar limit wanted candidates at best) where
+module _ (limit : ℕ) (wanted : Wanted) (candidates : List Candidate) (at best : ℕ) (inside : at < length candidates)
+    (old : IsBestSoFar limit wanted candidates at best) where
   -- the next one is better
   pub best-new : greatest_at candidates at ≤ limit → IsAllowed wanted candidates at → (best ≡ length candidates) ⊎ IsCheaperAt candidates at best
       → IsBestSoFar limit wanted candidates (at + 1) at
@@ -94,7 +98,8 @@ module _ (limit : ℕ) (wanted : Wanted) (candidates : List Candidate) (at best 
     first = λ v less l fits few.
         ⊎_elim
         (λ (this : v ≡ at).
-        ⊎_elim (λ (none : best ≡ length candidates). absurd (omega (arith, none, (here v this fits few).0))) (λ (under : best < at). absurd (omega (arith, under, this, less))) old.place)
+        ⊎_elim (λ (none : best ≡ length candidates). absurd (omega (arith, none, (here v this fits few).0)))
+        (λ (under : best < at). absurd (omega (arith, under, this, less))) old.place)
         (λ (other : v ≢ at). old.first v less (omega (arith, l, other)) fits few) (cases_eq v at);
   }
     where
@@ -105,6 +110,7 @@ module _ (limit : ℕ) (wanted : Wanted) (candidates : List Candidate) (at best 
 pub not-before : (candidates : List Candidate) (at best : ℕ) → best ≤ length candidates → ¬ ((best ≡ length candidates) ⊎ IsCheaperAt candidates at best)
     → (best < length candidates) × ¬ IsCheaperAt candidates at best
 not-before candidates at best le never = (
-  ⊎_elim (λ (same : best ≡ length candidates). absurd (never (inl same))) (λ (other : best ≢ length candidates). omega (arith, le, other)) (cases_eq best (length candidates)),
+  ⊎_elim (λ (same : best ≡ length candidates). absurd (never (inl same))) (λ (other : best ≢ length candidates). omega (arith, le, other))
+      (cases_eq best (length candidates)),
   λ cheaper. never (inr cheaper),
 )

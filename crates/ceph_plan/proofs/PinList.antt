@@ -1,5 +1,6 @@
 -- The list of pins, as a look-up and by its places.
-use Rattle.std.proofs.Common.{◌≡◌, ◌≢◌, ℕ, zero, suc, ◌<◌, ◌≤◌, List, [], ◌∷◌, ◌++◌, length, Bool, true, false, cond, eqb, Some, None, refl, ap, sym, subst, ◌-◌, ◌∙◌, arith, ⊎_elim}
+use Rattle.std.proofs.Common.{◌≡◌, ◌≢◌, ℕ, zero, suc, ◌<◌, ◌≤◌, List, [], ◌∷◌, ◌++◌, length, Bool, true}
+use Rattle.std.proofs.Common.{false, cond, eqb, Some, None, refl, ap, sym, subst, ◌-◌, ◌∙◌, arith, ⊎_elim}
 use Rattle.std.proofs.lemmas.List.{append_assoc}
 use Rattle.std.proofs.lemmas.Bool.{cases_eq, eq-eqb, ne_eqb}
 use Rattle.ceph_plan.specs.declared.row.PinRow.{PinRow}
@@ -8,7 +9,8 @@ use Rattle.ceph_plan.specs.declared.hold.Hold.{Hold}
 use Rattle.ceph_plan.specs.Rule.{pin_at, pin_index, row_index, target_at}
 use Rattle.ceph_plan.specs.Holds.{hold_at, is_own, pins_below}
 
-step : (b : Bool) (pin : Pin) (pins : List Pin) (i : ℕ) → pin_at (cond b (pin ∷ []) [] ++ pins) i ≡ cond b (cond (eqb pin.row i) (Some pin.rank) (pin_at pins i)) (pin_at pins i)
+step : (b : Bool) (pin : Pin) (pins : List Pin) (i : ℕ)
+    → pin_at (cond b (pin ∷ []) [] ++ pins) i ≡ cond b (cond (eqb pin.row i) (Some pin.rank) (pin_at pins i)) (pin_at pins i)
 step true pin pins i = refl
 step false pin pins i = refl
 
@@ -24,7 +26,8 @@ pin_at-past rows holds (suc n) i l =
     step (is_own (hold_at holds n)) (record { row = n; rank = target_at rows n }) (pins_below rows holds n) i
     ∙ (rw (other, rest) (both (is_own (hold_at holds n)) None))
 
-pub pin_at-below : (rows : List PinRow) (holds : List Hold) (n i : ℕ) → i < n → pin_at (pins_below rows holds n) i ≡ cond (is_own (hold_at holds i)) (Some (target_at rows i)) None
+pub pin_at-below : (rows : List PinRow) (holds : List Hold) (n i : ℕ) → i < n
+    → pin_at (pins_below rows holds n) i ≡ cond (is_own (hold_at holds i)) (Some (target_at rows i)) None
 pin_at-below rows holds zero i l = let none : ⊥ = omega (arith, l) in absurd none
 pin_at-below rows holds (suc n) i l =
     step (is_own (hold_at holds n)) (record { row = n; rank = target_at rows n }) (pins_below rows holds n) i
@@ -39,12 +42,16 @@ pin_at-below rows holds (suc n) i l =
     (cases_eq n i)
 
 -- each pin of the list is that of a row with a new one
-each_step : (rows : List PinRow) (P : Pin → Type 0) (b : Bool) (pin : Pin) (pins : List Pin) → (b ≡ true → P pin) → ((p : ℕ) → p < length pins → P (pin_index pins p)) → (p : ℕ) → p < length (cond b (pin ∷ []) [] ++ pins) → P (pin_index (cond b (pin ∷ []) [] ++ pins) p)
+each_step : (rows : List PinRow) (P : Pin → Type 0) (b : Bool) (pin : Pin) (pins : List Pin) → (b ≡ true → P pin)
+    → ((p : ℕ) → p < length pins → P (pin_index pins p)) → (p : ℕ) → p < length (cond b (pin ∷ []) [] ++ pins)
+    → P (pin_index (cond b (pin ∷ []) [] ++ pins) p)
 each_step rows P true pin pins here rest zero l = here refl
 each_step rows P true pin pins here rest (suc p) l = rest p (omega (arith, l))
 each_step rows P false pin pins here rest p l = rest p l
 
-pub each_pin : (rows : List PinRow) (holds : List Hold) (P : Pin → Type 0) (n : ℕ) → ((i : ℕ) → i < n → is_own (hold_at holds i) ≡ true → P (record { row = i; rank = target_at rows i })) → (p : ℕ) → p < length (pins_below rows holds n) → P (pin_index (pins_below rows holds n) p)
+pub each_pin : (rows : List PinRow) (holds : List Hold) (P : Pin → Type 0) (n : ℕ)
+    → ((i : ℕ) → i < n → is_own (hold_at holds i) ≡ true → P (record { row = i; rank = target_at rows i })) → (p : ℕ)
+    → p < length (pins_below rows holds n) → P (pin_index (pins_below rows holds n) p)
 each_pin rows holds P zero h p l = let none : ⊥ = omega (arith, l) in absurd none
 each_pin rows holds P (suc n) h p l =
     each_step rows P (is_own (hold_at holds n)) (record { row = n; rank = target_at rows n }) (pins_below rows holds n)
@@ -53,14 +60,17 @@ each_pin rows holds P (suc n) h p l =
 pub row-below : (rows : List PinRow) (holds : List Hold) (n p : ℕ) → p < length (pins_below rows holds n) → row_index (pins_below rows holds n) p < n
 row-below rows holds n p l = each_pin rows holds (λ pin. pin.row < n) n (λ i le is. le) p l
 
-fall_step : (b : Bool) (pin : Pin) (pins : List Pin) → ((p : ℕ) → p < length pins → row_index pins p < pin.row) → ((p q : ℕ) → p < q → q < length pins → row_index pins q < row_index pins p) → (p q : ℕ) → p < q → q < length (cond b (pin ∷ []) [] ++ pins) → row_index (cond b (pin ∷ []) [] ++ pins) q < row_index (cond b (pin ∷ []) [] ++ pins) p
+fall_step : (b : Bool) (pin : Pin) (pins : List Pin) → ((p : ℕ) → p < length pins → row_index pins p < pin.row)
+    → ((p q : ℕ) → p < q → q < length pins → row_index pins q < row_index pins p) → (p q : ℕ) → p < q
+    → q < length (cond b (pin ∷ []) [] ++ pins) → row_index (cond b (pin ∷ []) [] ++ pins) q < row_index (cond b (pin ∷ []) [] ++ pins) p
 fall_step true pin pins below rest p zero less l = let none : ⊥ = omega (arith, less) in absurd none
 fall_step true pin pins below rest zero (suc q) less l = below q (omega (arith, l))
 fall_step true pin pins below rest (suc p) (suc q) less l = rest p q (omega (arith, less)) (omega (arith, l))
 fall_step false pin pins below rest p q less l = rest p q less l
 
 -- the rows of the list fall
-pub falling : (rows : List PinRow) (holds : List Hold) (n p q : ℕ) → p < q → q < length (pins_below rows holds n) → row_index (pins_below rows holds n) q < row_index (pins_below rows holds n) p
+pub falling : (rows : List PinRow) (holds : List Hold) (n p q : ℕ) → p < q → q < length (pins_below rows holds n)
+    → row_index (pins_below rows holds n) q < row_index (pins_below rows holds n) p
 falling rows holds zero p q less l = let none : ⊥ = omega (arith, l) in absurd none
 falling rows holds (suc n) p q less l =
     fall_step (is_own (hold_at holds n)) (record { row = n; rank = target_at rows n }) (pins_below rows holds n)
@@ -80,10 +90,15 @@ pub more-before : (i : ℕ) → 0 < i → i ≡ suc (i - 1)
 more-before i l = omega (arith, l)
 
 -- a row that has a pin, and one that has none
-pub with_pin : (rows : List PinRow) (holds : List Hold) (done all : List Pin) (i : ℕ) → 0 < i → done ++ pins_below rows holds i ≡ all → is_own (hold_at holds (i - 1)) ≡ true → (done ++ record { row = i - 1; rank = target_at rows (i - 1) } ∷ []) ++ pins_below rows holds (i - 1) ≡ all
-with_pin rows holds done all i l is own = with_one done (pins_below rows holds (i - 1)) all (record { row = i - 1; rank = target_at rows (i - 1) }) (is_own (hold_at holds (i - 1)))
+pub with_pin : (rows : List PinRow) (holds : List Hold) (done all : List Pin) (i : ℕ) → 0 < i → done ++ pins_below rows holds i ≡ all
+    → is_own (hold_at holds (i - 1)) ≡ true → (done ++ record { row = i - 1; rank = target_at rows (i - 1) } ∷ [])
+    ++ pins_below rows holds (i - 1) ≡ all
+with_pin rows holds done all i l is own = with_one done (pins_below rows holds (i - 1)) all
+    (record { row = i - 1; rank = target_at rows (i - 1) }) (is_own (hold_at holds (i - 1)))
     (subst (λ (n : ℕ). done ++ pins_below rows holds n ≡ all) (more-before i l) is) own
 
-pub with_no_pin : (rows : List PinRow) (holds : List Hold) (done all : List Pin) (i : ℕ) → 0 < i → done ++ pins_below rows holds i ≡ all → is_own (hold_at holds (i - 1)) ≡ false → done ++ pins_below rows holds (i - 1) ≡ all
-with_no_pin rows holds done all i l is own = with_none done (pins_below rows holds (i - 1)) all (record { row = i - 1; rank = target_at rows (i - 1) }) (is_own (hold_at holds (i - 1)))
+pub with_no_pin : (rows : List PinRow) (holds : List Hold) (done all : List Pin) (i : ℕ) → 0 < i → done ++ pins_below rows holds i ≡ all
+    → is_own (hold_at holds (i - 1)) ≡ false → done ++ pins_below rows holds (i - 1) ≡ all
+with_no_pin rows holds done all i l is own = with_none done (pins_below rows holds (i - 1)) all
+    (record { row = i - 1; rank = target_at rows (i - 1) }) (is_own (hold_at holds (i - 1)))
     (subst (λ (n : ℕ). done ++ pins_below rows holds n ≡ all) (more-before i l) is) own

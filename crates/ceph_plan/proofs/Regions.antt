@@ -1,5 +1,6 @@
 -- The parts of rows that go to given ranks, with one more row, and what plan they are.
-use Rattle.std.proofs.Common.{◌≡◌, ◌≢◌, ◌∙◌, ◌<◌, ◌+◌, ◌⊎◌, ◌==◌, ℕ, Bool, true, false, not, cond, List, [], ◌∷◌, ◌++◌, length, length-append, max, slice_index, ap, arith, refl, subst, sym, ⊎_elim}
+use Rattle.std.proofs.Common.{◌≡◌, ◌≢◌, ◌∙◌, ◌<◌, ◌+◌, ◌⊎◌, ◌==◌, ℕ, Bool, true, false, not, cond, List}
+use Rattle.std.proofs.Common.{[], ◌∷◌, ◌++◌, length, length-append, max, slice_index, ap, arith, refl, subst, sym, ⊎_elim}
 use Rattle.std.proofs.lemmas.Bool.{cases_Bool, cases_eq, eqb-true, both_ways, or_parts, eqb-false}
 use Rattle.mds_types.specs.declared.problem.ProblemRow.{ProblemRow}
 use Rattle.mds_types.specs.Problem.{IsForest, parent_at}
@@ -86,7 +87,8 @@ load-to hours n r to those same = max-same (length hours) (λ h. load_in hours n
     (λ i inside. ap (λ (x : ℕ). cond (x == r) (heat_in hours h i) 0) (same i inside))))
 
 -- the parts with their ranks are a packing
-pub regions-packing : (ranks : ℕ) (hours : List Hour) (rows : List ProblemRow) (goals : List ℕ) (plan : Planned) → 0 < length rows → AreGoals ranks (length rows) goals
+pub regions-packing : (ranks : ℕ) (hours : List Hour) (rows : List ProblemRow) (goals : List ℕ) (plan : Planned) → 0 < length rows
+    → AreGoals ranks (length rows) goals
     → AreRegions rows goals (length rows) plan.part.items plan.packing.rank.items → plan.count ≡ length plan.packing.rank.items
     → length plan.packing.load.items ≡ 64 → ((r : ℕ) → r < 64 → slice_index plan.packing.load.items r ≡ load hours (length rows) (slice_index goals) r)
     → plan.packing.greatest ≡ greatest_of ranks (slice_index plan.packing.load.items)
@@ -106,7 +108,8 @@ regions-packing ranks hours rows goals plan some are regions count size loads gr
       greatest = greatest ∙ greatest-same ranks (slice_index plan.packing.load.items) (load hours (length rows) to) at;
     }
 
-pub regions-placed : (ranks : ℕ) (hours : List Hour) (rows : List ProblemRow) (goals : List ℕ) (plan : Planned) → IsForest rows → 0 < length rows → AreGoals ranks (length rows) goals
+pub regions-placed : (ranks : ℕ) (hours : List Hour) (rows : List ProblemRow) (goals : List ℕ) (plan : Planned) → IsForest rows
+    → 0 < length rows → AreGoals ranks (length rows) goals
     → AreRegions rows goals (length rows) plan.part.items plan.packing.rank.items → plan.count ≡ length plan.packing.rank.items
     → length plan.packing.load.items ≡ 64 → ((r : ℕ) → r < 64 → slice_index plan.packing.load.items r ≡ load hours (length rows) (slice_index goals) r)
     → plan.packing.greatest ≡ greatest_of ranks (slice_index plan.packing.load.items)

@@ -1,5 +1,6 @@
 -- The contract of the changes, and one more row.
-use Rattle.std.proofs.Common.{All, ◌≡◌, ◌≢◌, ℕ, zero, suc, ◌+◌, ◌-◌, ◌<◌, ◌≤◌, List, [], ◌∷◌, ◌++◌, length, take, true, false, cond, eqb, not, ◌&&◌, Option, Some, None, refl, ap, sym, ◌∙◌, arith, ⊎_elim, inl, inr, subst}
+use Rattle.std.proofs.Common.{All, ◌≡◌, ◌≢◌, ℕ, zero, suc, ◌+◌, ◌-◌, ◌<◌, ◌≤◌, List, [], ◌∷◌, ◌++◌, length, take, true}
+use Rattle.std.proofs.Common.{false, cond, eqb, not, ◌&&◌, Option, Some, None, refl, ap, sym, ◌∙◌, arith, ⊎_elim, inl, inr, subst}
 use Rattle.std.specs.Prelude.{is_some, is_none}
 use Rattle.std.proofs.lemmas.Bool.{and_from, and_parts, both_ways, cases_Bool, cases_lt, eq-eqb, not-true, not_from_false, lt-ltb, le-ltb}
 use Rattle.std.proofs.lemmas.List.{get_or_past}
@@ -10,7 +11,8 @@ use Rattle.ceph_plan.specs.declared.hold.Hold.{Hold}
 use Rattle.ceph_plan.specs.declared.hold.Hold.TheVariants.{Foreign, Free, Own}
 use Rattle.ceph_plan.specs.Rule.{IsAt, IsRealized, first_of, foreign_at, no_row, parent_at, row_at, target_at, without}
 use Rattle.ceph_plan.specs.Holds.{HoldEach, hold_at, hold_of, is_own, rests_at}
-use Rattle.ceph_plan.specs.Changes.{AreForced, AreNeeded, AreUntouched, MovesOnce, StillHolds, applied, before_pin, drops_from, is_dropped, is_set, sets_below, stands, while_set, while_unset}
+use Rattle.ceph_plan.specs.Changes.{AreForced, AreNeeded, AreUntouched, MovesOnce, StillHolds, applied, before_pin}
+use Rattle.ceph_plan.specs.Changes.{drops_from, is_dropped, is_set, sets_below, stands, while_set, while_unset}
 use Rattle.ceph_plan.proofs.Held.{IsHeld, IsOwnBy, own_below, own_by, own_held, own_inside, rests_is, some_or_none}
 use Rattle.ceph_plan.proofs.Held as held
 use Rattle.ceph_plan.proofs.Found.{new_pin}
@@ -87,7 +89,8 @@ states rows holds are =
           (some_or_none (foreign_at rows i));
     }
 
-start : (rows : List PinRow) (holds : List Hold) (old new : ℕ → Option ℕ) → length holds ≡ length rows → AreStates rows holds old new → AreSame old (while_set old new (length rows))
+start : (rows : List PinRow) (holds : List Hold) (old new : ℕ → Option ℕ) → length holds ≡ length rows → AreStates rows holds old new
+    → AreSame old (while_set old new (length rows))
 start rows holds old new size states = record {
   same = λ j.
       ⊎_elim (λ (low : j < length rows). rw (lt-ltb j (length rows) low) refl)
@@ -97,7 +100,8 @@ start rows holds old new size states = record {
       (cases_lt j (length rows));
 }
 
-finish : (rows : List PinRow) (holds : List Hold) (old new : ℕ → Option ℕ) (n : ℕ) → n ≡ length rows → AreStates rows holds old new → AreSame (while_unset old new n) new
+finish : (rows : List PinRow) (holds : List Hold) (old new : ℕ → Option ℕ) (n : ℕ) → n ≡ length rows → AreStates rows holds old new
+    → AreSame (while_unset old new n) new
 finish rows holds old new n is states = record {
   same = λ j.
       ⊎_elim (λ (low : j < n). rw (lt-ltb j n low) refl)
@@ -113,7 +117,8 @@ pub record AreChanges (rows : List PinRow) (holds : List Hold) (changes : List P
   pub held : HoldEach rows holds
   pub changes_are : changes ≡ sets_below rows holds (length rows) ++ drops_from rows holds (length rows) 0
 
-in_the_end : (rows : List PinRow) (holds : List Hold) (changes : List PinChange) → AreChanges rows holds changes → AreSame (applied (before_pin rows) changes) (new_pin rows holds)
+in_the_end : (rows : List PinRow) (holds : List Hold) (changes : List PinChange) → AreChanges rows holds changes
+    → AreSame (applied (before_pin rows) changes) (new_pin rows holds)
 in_the_end rows holds changes f =
     let is = states rows holds f.held in
     let begin = start rows holds (before_pin rows) (new_pin rows holds) f.held.size is in
@@ -125,9 +130,11 @@ in_the_end rows holds changes f =
 back : (own other : ℕ → Option ℕ) → AreSame own other → AreSame other own
 back own other s = record { same = λ j. sym (s.same j) }
 
-pub realized : (rows : List PinRow) (holds : List Hold) (changes : List PinChange) → AreChanges rows holds changes → IsRealized rows (applied (before_pin rows) changes)
+pub realized : (rows : List PinRow) (holds : List Hold) (changes : List PinChange) → AreChanges rows holds changes
+    → IsRealized rows (applied (before_pin rows) changes)
 realized rows holds changes f i ours =
-    same_at rows (new_pin rows holds) (applied (before_pin rows) changes) i (target_at rows i) (back (applied (before_pin rows) changes) (new_pin rows holds) (in_the_end rows holds changes f))
+    same_at rows (new_pin rows holds) (applied (before_pin rows) changes) i (target_at rows i)
+    (back (applied (before_pin rows) changes) (new_pin rows holds) (in_the_end rows holds changes f))
     (held.realized rows holds (new_pin rows holds) f.held (own_by rows holds f.held) i ours)
 
 pub moves_once : (rows : List PinRow) (holds : List Hold) (changes : List PinChange) → AreChanges rows holds changes → MovesOnce rows changes
@@ -137,33 +144,49 @@ moves_once rows holds changes f k i r l near =
     elim (once rows holds (before_pin rows) (new_pin rows holds) k i r f.held.are is begin l
     (subst (λ (cs : List PinChange). IsAt rows (applied (before_pin rows) (take k cs)) i r) f.changes_are near)) [
       | inl before ↦ inl before
-      | inr after ↦ inr (same_at rows (new_pin rows holds) (applied (before_pin rows) changes) i r (back (applied (before_pin rows) changes) (new_pin rows holds) (in_the_end rows holds changes f)) after)
+      | inr after ↦ inr (same_at rows (new_pin rows holds) (applied (before_pin rows) changes) i r
+          (back (applied (before_pin rows) changes) (new_pin rows holds) (in_the_end rows holds changes f)) after)
     ]
 
-pub with_no_set : (rows : List PinRow) (holds : List Hold) (done all : List PinChange) (i : ℕ) → 0 < i → done ++ sets_below rows holds i ≡ all → is_set (row_at rows (i - 1)) (hold_at holds (i - 1)) ≡ false → done ++ sets_below rows holds (i - 1) ≡ all
-with_no_set rows holds done all i l is set = with_none done (sets_below rows holds (i - 1)) all (record { row = i - 1; pin = Some (target_at rows (i - 1)) }) (is_set (row_at rows (i - 1)) (hold_at holds (i - 1)))
+pub with_no_set : (rows : List PinRow) (holds : List Hold) (done all : List PinChange) (i : ℕ) → 0 < i
+    → done ++ sets_below rows holds i ≡ all → is_set (row_at rows (i - 1)) (hold_at holds (i - 1)) ≡ false
+    → done ++ sets_below rows holds (i - 1) ≡ all
+with_no_set rows holds done all i l is set = with_none done (sets_below rows holds (i - 1)) all
+    (record { row = i - 1; pin = Some (target_at rows (i - 1)) }) (is_set (row_at rows (i - 1)) (hold_at holds (i - 1)))
     (subst (λ (n : ℕ). done ++ sets_below rows holds n ≡ all) (more-before i l) is) set
 
-pub with_set : (rows : List PinRow) (holds : List Hold) (done all : List PinChange) (i : ℕ) → 0 < i → done ++ sets_below rows holds i ≡ all → is_set (row_at rows (i - 1)) (hold_at holds (i - 1)) ≡ true → (done ++ record { row = i - 1; pin = Some (target_at rows (i - 1)) } ∷ []) ++ sets_below rows holds (i - 1) ≡ all
-with_set rows holds done all i l is set = with_one done (sets_below rows holds (i - 1)) all (record { row = i - 1; pin = Some (target_at rows (i - 1)) }) (is_set (row_at rows (i - 1)) (hold_at holds (i - 1)))
+pub with_set : (rows : List PinRow) (holds : List Hold) (done all : List PinChange) (i : ℕ) → 0 < i → done ++ sets_below rows holds i ≡ all
+    → is_set (row_at rows (i - 1)) (hold_at holds (i - 1)) ≡ true
+    → (done ++ record { row = i - 1; pin = Some (target_at rows (i - 1)) } ∷ []) ++ sets_below rows holds (i - 1) ≡ all
+with_set rows holds done all i l is set = with_one done (sets_below rows holds (i - 1)) all
+    (record { row = i - 1; pin = Some (target_at rows (i - 1)) }) (is_set (row_at rows (i - 1)) (hold_at holds (i - 1)))
     (subst (λ (n : ℕ). done ++ sets_below rows holds n ≡ all) (more-before i l) is) set
 
-drops-split : (rows : List PinRow) (holds : List Hold) (n i : ℕ) → i < n → drops_from rows holds (n - i) i ≡ cond (is_dropped (row_at rows i) (hold_at holds i)) (record { row = i; pin = None } ∷ []) [] ++ drops_from rows holds (n - (i + 1)) (i + 1)
+drops-split : (rows : List PinRow) (holds : List Hold) (n i : ℕ) → i < n
+    → drops_from rows holds (n - i) i ≡ cond (is_dropped (row_at rows i) (hold_at holds i)) (record { row = i; pin = None } ∷ []) []
+    ++ drops_from rows holds (n - (i + 1)) (i + 1)
 drops-split rows holds n i l =
     let more : n - i ≡ suc (n - (i + 1)) = omega (arith, l) in
     let next : i + 1 ≡ suc i = omega arith in
     rw (more, next) refl
 
-pub with_drop : (rows : List PinRow) (holds : List Hold) (done all : List PinChange) (n i : ℕ) → i < n → done ++ drops_from rows holds (n - i) i ≡ all → is_dropped (row_at rows i) (hold_at holds i) ≡ true → (done ++ record { row = i; pin = None } ∷ []) ++ drops_from rows holds (n - (i + 1)) (i + 1) ≡ all
-with_drop rows holds done all n i l is drop = with_one done (drops_from rows holds (n - (i + 1)) (i + 1)) all (record { row = i; pin = None }) (is_dropped (row_at rows i) (hold_at holds i))
+pub with_drop : (rows : List PinRow) (holds : List Hold) (done all : List PinChange) (n i : ℕ) → i < n
+    → done ++ drops_from rows holds (n - i) i ≡ all → is_dropped (row_at rows i) (hold_at holds i) ≡ true
+    → (done ++ record { row = i; pin = None } ∷ []) ++ drops_from rows holds (n - (i + 1)) (i + 1) ≡ all
+with_drop rows holds done all n i l is drop = with_one done (drops_from rows holds (n - (i + 1)) (i + 1)) all
+    (record { row = i; pin = None }) (is_dropped (row_at rows i) (hold_at holds i))
     (subst (λ (cs : List PinChange). done ++ cs ≡ all) (drops-split rows holds n i l) is) drop
 
-pub with_no_drop : (rows : List PinRow) (holds : List Hold) (done all : List PinChange) (n i : ℕ) → i < n → done ++ drops_from rows holds (n - i) i ≡ all → is_dropped (row_at rows i) (hold_at holds i) ≡ false → done ++ drops_from rows holds (n - (i + 1)) (i + 1) ≡ all
-with_no_drop rows holds done all n i l is drop = with_none done (drops_from rows holds (n - (i + 1)) (i + 1)) all (record { row = i; pin = None }) (is_dropped (row_at rows i) (hold_at holds i))
+pub with_no_drop : (rows : List PinRow) (holds : List Hold) (done all : List PinChange) (n i : ℕ) → i < n
+    → done ++ drops_from rows holds (n - i) i ≡ all → is_dropped (row_at rows i) (hold_at holds i) ≡ false
+    → done ++ drops_from rows holds (n - (i + 1)) (i + 1) ≡ all
+with_no_drop rows holds done all n i l is drop = with_none done (drops_from rows holds (n - (i + 1)) (i + 1)) all
+    (record { row = i; pin = None }) (is_dropped (row_at rows i) (hold_at holds i))
     (subst (λ (cs : List PinChange). done ++ cs ≡ all) (drops-split rows holds n i l) is) drop
 
 -- what holds of each change that is made holds of all
-all_sets : (P : PinChange → Type 0) (rows : List PinRow) (holds : List Hold) → ((i : ℕ) → is_set (row_at rows i) (hold_at holds i) ≡ true → P (record { row = i; pin = Some (target_at rows i) }))
+all_sets : (P : PinChange → Type 0) (rows : List PinRow) (holds : List Hold)
+    → ((i : ℕ) → is_set (row_at rows i) (hold_at holds i) ≡ true → P (record { row = i; pin = Some (target_at rows i) }))
     → (n : ℕ) → All P (sets_below rows holds n)
 all_sets P rows holds each zero = All-nil P
 all_sets P rows holds each (suc n) =
@@ -172,7 +195,8 @@ all_sets P rows holds each (suc n) =
     (λ (is : is_set (row_at rows n) (hold_at holds n) ≡ false). rw is (all_sets P rows holds each n))
     (cases_Bool (is_set (row_at rows n) (hold_at holds n)))
 
-all_drops : (P : PinChange → Type 0) (rows : List PinRow) (holds : List Hold) → ((i : ℕ) → is_dropped (row_at rows i) (hold_at holds i) ≡ true → P (record { row = i; pin = None }))
+all_drops : (P : PinChange → Type 0) (rows : List PinRow) (holds : List Hold)
+    → ((i : ℕ) → is_dropped (row_at rows i) (hold_at holds i) ≡ true → P (record { row = i; pin = None }))
     → (n m : ℕ) → All P (drops_from rows holds n m)
 all_drops P rows holds each zero m = All-nil P
 all_drops P rows holds each (suc n) m =
@@ -186,16 +210,19 @@ all_changes : (P : PinChange → Type 0) (rows : List PinRow) (holds : List Hold
     → ((i : ℕ) → is_dropped (row_at rows i) (hold_at holds i) ≡ true → P (record { row = i; pin = None })) → All P changes
 all_changes P rows holds changes f set dropped =
     subst (All P) (sym f.changes_are)
-    (All-append P (sets_below rows holds (length rows)) (drops_from rows holds (length rows) 0) (all_sets P rows holds set (length rows)) (all_drops P rows holds dropped (length rows) 0))
+    (All-append P (sets_below rows holds (length rows)) (drops_from rows holds (length rows) 0) (all_sets P rows holds set (length rows))
+    (all_drops P rows holds dropped (length rows) 0))
 
 pub needed : (rows : List PinRow) (holds : List Hold) (changes : List PinChange) → AreChanges rows holds changes → AreNeeded rows changes
 needed rows holds changes f =
     all_changes (λ change. before_pin rows change.row ≢ change.pin) rows holds changes f
-    (λ i is. rests_false (before_pin rows i) (target_at rows i) (not-true (stands (row_at rows i)) (and_parts (is_own (hold_at holds i)) (not (stands (row_at rows i))) is).1))
+    (λ i is. rests_false (before_pin rows i) (target_at rows i)
+    (not-true (stands (row_at rows i)) (and_parts (is_own (hold_at holds i)) (not (stands (row_at rows i))) is).1))
     (λ i is same.
     let parts = and_parts (is_none (foreign_at rows i)) (is_some (row_at rows i).earlier && not (is_own (hold_at holds i))) is in
     let some = (and_parts (is_some (row_at rows i).earlier) (not (is_own (hold_at holds i))) parts.1).0 in
-    let before : before_pin rows i ≡ (row_at rows i).earlier = ap (λ (o : Option ℕ). first_of o (row_at rows i).earlier) (is_none_none (foreign_at rows i) parts.0) in
+    let before : before_pin rows i ≡ (row_at rows i).earlier =
+    ap (λ (o : Option ℕ). first_of o (row_at rows i).earlier) (is_none_none (foreign_at rows i) parts.0) in
     both_ways (is_some (row_at rows i).earlier) (ap is_some (sym before ∙ same)) some)
 
 -- no change is of a row whose pin is to stay
@@ -221,16 +248,20 @@ pub untouched : (rows : List PinRow) (holds : List Hold) (changes : List PinChan
 untouched rows holds changes f =
     all_changes (λ change. foreign_at rows change.row ≡ None) rows holds changes f
     (λ i is. own_unpinned rows holds i f.held (and_parts (is_own (hold_at holds i)) (not (stands (row_at rows i))) is).0)
-    (λ i is. is_none_none (foreign_at rows i) (and_parts (is_none (foreign_at rows i)) (is_some (row_at rows i).earlier && not (is_own (hold_at holds i))) is).0)
+    (λ i is. is_none_none (foreign_at rows i)
+    (and_parts (is_none (foreign_at rows i)) (is_some (row_at rows i).earlier && not (is_own (hold_at holds i))) is).0)
 
 -- what a pin holds that is to stay, it still holds
-pub kept : (rows : List PinRow) (holds : List Hold) (changes : List PinChange) → AreChanges rows holds changes → StillHolds rows (applied (before_pin rows) changes)
+pub kept : (rows : List PinRow) (holds : List Hold) (changes : List PinChange) → AreChanges rows holds changes
+    → StillHolds rows (applied (before_pin rows) changes)
 kept rows holds changes f i r near =
-    same_near rows (new_pin rows holds) (applied (before_pin rows) changes) i r (back (applied (before_pin rows) changes) (new_pin rows holds) (in_the_end rows holds changes f))
+    same_near rows (new_pin rows holds) (applied (before_pin rows) changes) i r
+    (back (applied (before_pin rows) changes) (new_pin rows holds) (in_the_end rows holds changes f))
     (held.kept rows holds (new_pin rows holds) f.held (own_by rows holds f.held) i r near)
 
 -- a pin of ours that is there in the end is needed
-pub forced : (rows : List PinRow) (holds : List Hold) (changes : List PinChange) → AreChanges rows holds changes → AreForced rows (applied (before_pin rows) changes)
+pub forced : (rows : List PinRow) (holds : List Hold) (changes : List PinChange) → AreChanges rows holds changes
+    → AreForced rows (applied (before_pin rows) changes)
 forced rows holds changes f i free some there =
     let last = in_the_end rows holds changes f in
     found.needed rows holds i f.held

@@ -26,7 +26,8 @@ same-candidate one other is = ap (λ (o : Option Candidate). option_map_or (λ (
 nothing-moves : (rows : List ProblemRow) (f to now : ℕ → ℕ) (n : ℕ) → ((i : ℕ) → i < n → to i ≡ now i) → sum_below n (λ i. cond (to i == now i) 0 (f i)) ≡ 0
 nothing-moves rows f to now n same = sum_below-zero n (λ i. cond (to i == now i) 0 (f i)) (λ i l. rw (eq-eqb (to i) (now i) (same i l)) refl)
 
-pub stays : (ranks : ℕ) (hours : List Hour) (rows : List ProblemRow) (wanted : Wanted) (own : List OwnPins) (found : Proposal) (is : IsProposal ranks hours rows wanted own found)
+pub stays : (ranks : ℕ) (hours : List Hour) (rows : List ProblemRow) (wanted : Wanted) (own : List OwnPins) (found : Proposal)
+    (is : IsProposal ranks hours rows wanted own found)
     → CanStay ranks rows → IsAllowed wanted is.candidates 0 → greatest_load ranks hours (length rows) (problem.now_at rows) ≤ is.limit → Stays rows found.plan
 stays ranks hours rows wanted own found is can few cool =
     let one : Candidate = is.are.begun.present.0 in
@@ -47,7 +48,8 @@ stays ranks hours rows wanted own found is can few cool =
     ⊎_elim
     (λ (later : 0 < is.k).
     ⊎_elim (λ (fewer : moves_at is.candidates is.k < moves_at is.candidates 0). absurd (omega (arith, fewer, moved_is)))
-    (λ (like : (moves_at is.candidates is.k ≡ moves_at is.candidates 0) × (heats_at is.candidates is.k < heats_at is.candidates 0)). absurd (omega (arith, like.1, heat_is)))
+    (λ (like : (moves_at is.candidates is.k ≡ moves_at is.candidates 0) × (heats_at is.candidates is.k < heats_at is.candidates 0)). absurd
+    (omega (arith, like.1, heat_is)))
     (is.picked.first 0 later (omega (arith, greatest, cool)) few))
     (λ (none : is.k ≤ 0). omega (arith, none))
     (cases_lt 0 is.k) in
@@ -55,6 +57,7 @@ stays ranks hours rows wanted own found is can few cool =
     let plan : one.plan ≡ found.plan = ap (λ (c : Candidate). c.plan) taken ∙ sym is.plan in
     subst (Stays rows) plan (record { moved = moved; at = at })
   where
-    at-now : (i : ℕ) → i < length rows → packed_rank is.are.begun.present.0.plan.packing.rank.items is.are.begun.present.0.plan.part.items i ≡ problem.now_at rows i
+    at-now : (i : ℕ) → i < length rows → packed_rank is.are.begun.present.0.plan.packing.rank.items is.are.begun.present.0.plan.part.items i
+        ≡ problem.now_at rows i
     at-now zero l = (is.are.begun.each 0 is.are.begun.present.0 is.are.begun.present.1).placed.packing.root ∙ sym can.root
     at-now (suc i) l = is.are.begun.present.2 (suc i) (omega arith) l (can.usable (suc i) l)

@@ -1,5 +1,6 @@
 -- What is weighed, with one more number of parts.
-use Rattle.std.proofs.Common.{◌≡◌, ◌∙◌, ◌<◌, ◌≤◌, ◌+◌, ◌⊎◌, ◌||◌, ℕ, zero, suc, Bool, true, false, List, [], ◌∷◌, ◌++◌, length, Option, Some, inl, inr, ⊎_elim, ap, sym, subst, refl, arith}
+use Rattle.std.proofs.Common.{◌≡◌, ◌∙◌, ◌<◌, ◌≤◌, ◌+◌, ◌⊎◌, ◌||◌, ℕ, zero, suc, Bool, true, false, List}
+use Rattle.std.proofs.Common.{[], ◌∷◌, ◌++◌, length, Option, Some, inl, inr, ⊎_elim, ap, sym, subst, refl, arith}
 use Rattle.std.proofs.Math.Nat.{le_refl, le_trans}
 use Rattle.std.proofs.lemmas.Bool.{both_ways, cases_lt}
 use Rattle.std.proofs.lemmas.Option.{none-some, slice_get_within}
@@ -62,7 +63,8 @@ weighed_kept ranks hours rows plans more parts is = record {
 }
 
 -- one more plan, of this number of parts
-pub weighed_more : (ranks : ℕ) (hours : List Hour) (rows : List ProblemRow) (plans : List PackedDivision) (n next cap : ℕ) (more : PackedDivision) → AreWeighed ranks hours rows plans n
+pub weighed_more : (ranks : ℕ) (hours : List Hour) (rows : List ProblemRow) (plans : List PackedDivision) (n next cap : ℕ)
+    (more : PackedDivision) → AreWeighed ranks hours rows plans n
     → (n < next) × (next ≤ n + gap n + 1) → IsDivided ranks hours rows n cap more → IsTriedCount ranks hours rows (plans ++ more ∷ []) n
     → AreWeighed ranks hours rows (plans ++ more ∷ []) next
 weighed_more ranks hours rows plans n next cap more before step is of = record {
@@ -79,12 +81,14 @@ weighed_more ranks hours rows plans n next cap more before step is of = record {
     below-next : (parts n over next : ℕ) → parts < next → (n < next) × (next ≤ n + over + 1) → parts ≤ n + over
     below-next parts n over next high step = omega (arith, high, step.1)
 
-has_last : (ranks : ℕ) (hours : List Hour) (rows : List ProblemRow) (plans : List PackedDivision) (more : PackedDivision) (n cap : ℕ) → IsDivided ranks hours rows n cap more
+has_last : (ranks : ℕ) (hours : List Hour) (rows : List ProblemRow) (plans : List PackedDivision) (more : PackedDivision) (n cap : ℕ)
+    → IsDivided ranks hours rows n cap more
     → HasDivision ranks hours rows (plans ++ more ∷ []) n cap
 has_last ranks hours rows plans more n cap of = record { k = length plans; divided = more; there = get_last plans more; of = of }
 
 -- the number of parts of the plan that is added is tried
-pub tried_now : (ranks : ℕ) (hours : List Hour) (rows : List ProblemRow) (plans : List PackedDivision) (heavy : Bool) (n heat : ℕ) (size : Size) (more : PackedDivision)
+pub tried_now : (ranks : ℕ) (hours : List Hour) (rows : List ProblemRow) (plans : List PackedDivision) (heavy : Bool) (n heat : ℕ)
+    (size : Size) (more : PackedDivision)
     → heat ≡ total_of_rows rows → size ≡ size_of heat n heavy → IsDivided ranks hours rows size.parts size.cap more
     → (heavy ≡ true → HasHeavyDivision ranks hours rows plans n) → IsTriedCount ranks hours rows (plans ++ more ∷ []) n
 tried_now ranks hours rows plans false n heat size more heat_is sized of flag =
@@ -101,13 +105,15 @@ pub record IsSoFar (ranks : ℕ) (hours : List Hour) (rows : List ProblemRow) (p
   pub flag : heavy ≡ true → HasHeavyDivision ranks hours rows plans n
 
 -- a plan of the size that is to be weighed is added
-pub more-so_far : (ranks : ℕ) (hours : List Hour) (rows : List ProblemRow) (plans : List PackedDivision) (heavy now : Bool) (n next heat : ℕ) (size : Size) (more : PackedDivision)
+pub more-so_far : (ranks : ℕ) (hours : List Hour) (rows : List ProblemRow) (plans : List PackedDivision) (heavy now : Bool)
+    (n next heat : ℕ) (size : Size) (more : PackedDivision)
     → heat ≡ total_of_rows rows → size ≡ size_of heat n heavy → IsDivided ranks hours rows size.parts size.cap more → (n < next) × (next ≤ n + gap n + 1)
     → now ≡ (heavy || more.is_heavy) → IsSoFar ranks hours rows plans heavy n → IsSoFar ranks hours rows (plans ++ more ∷ []) now next
 more-so_far ranks hours rows plans false now n next heat size more heat_is sized of step now_is before =
     let plain : IsDivided ranks hours rows n no_cap more = subst (λ (s : Size). IsDivided ranks hours rows s.parts s.cap more) sized of in
     record {
-      weighed = weighed_more ranks hours rows plans n next no_cap more before.weighed step plain (tried_now ranks hours rows plans false n heat size more heat_is sized of before.flag);
+      weighed = weighed_more ranks hours rows plans n next no_cap more before.weighed step plain
+          (tried_now ranks hours rows plans false n heat size more heat_is sized of before.flag);
       flag = λ set. record { fewer = n; less = step.0; k = length plans; divided = more; there = get_last plans more; of = plain; heavy = sym now_is ∙ set };
     }
 more-so_far ranks hours rows plans true now n next heat size more heat_is sized of step now_is before =
@@ -125,12 +131,14 @@ more-so_far ranks hours rows plans true now n next heat size more heat_is sized 
     later n next less = omega (arith, less)
 
 -- what is weighed below a number is so below a smaller one
-pub weighed_fewer : (ranks : ℕ) (hours : List Hour) (rows : List ProblemRow) (plans : List PackedDivision) (n m : ℕ) → m ≤ n → AreWeighed ranks hours rows plans n
+pub weighed_fewer : (ranks : ℕ) (hours : List Hour) (rows : List ProblemRow) (plans : List PackedDivision) (n m : ℕ) → m ≤ n
+    → AreWeighed ranks hours rows plans n
     → AreWeighed ranks hours rows plans m
 weighed_fewer ranks hours rows plans n m le are = record { all = are.all; each = λ parts low high. are.each parts low (le_trans high le) }
 
 -- some plan was weighed
-pub some_weighed : (ranks : ℕ) (hours : List Hour) (rows : List ProblemRow) (plans : List PackedDivision) (n : ℕ) → rank_count ranks < n → AreWeighed ranks hours rows plans n → 0 < length plans
+pub some_weighed : (ranks : ℕ) (hours : List Hour) (rows : List ProblemRow) (plans : List PackedDivision) (n : ℕ) → rank_count ranks < n
+    → AreWeighed ranks hours rows plans n → 0 < length plans
 some_weighed ranks hours rows plans n more weighed = elim (weighed.each (rank_count ranks) (le_refl (rank_count ranks)) more).of [
   | inl has ↦ positive has.k (length plans) (slice_get_within plans has.k has.divided has.there)
   | inr has ↦ positive has.1.k (length plans) (slice_get_within plans has.1.k has.1.divided has.1.there)
@@ -155,4 +163,5 @@ later-count first n next from less = omega (arith, from, less)
 -- once the last number is passed, it is the one that was tried: none below it leads past it
 pub at-last : (n last next : ℕ) → n ≤ last → (n < last → next ≤ last) → last < next → n ≡ last
 at-last n last next within until past =
-    ⊎_elim (λ (less : n < last). let none : ⊥ = omega (arith, until less, past) in absurd none) (λ (high : last ≤ n). omega (arith, within, high)) (cases_lt n last)
+    ⊎_elim (λ (less : n < last). let none : ⊥ = omega (arith, until less, past) in absurd none)
+    (λ (high : last ≤ n). omega (arith, within, high)) (cases_lt n last)

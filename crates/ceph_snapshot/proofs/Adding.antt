@@ -1,5 +1,7 @@
 -- What one more directory adds.
-use Rattle.std.proofs.Common.{◌≡◌, ◌≢◌, ◌∙◌, ℕ, ◌+◌, ◌-◌, ◌^◌, ◌<◌, ◌≤◌, ◌&&◌, ◌↔◌, ◌⊎◌, ◌++◌, ◌∷◌, [], Bool, true, false, not, cond, List, Option, Some, None, add_assoc, add-zero, ap, arith, get_or, length, min, refl, set, slice_get, slice_index, subst, sym, ⊎_elim}
+use Rattle.std.proofs.Common.{◌≡◌, ◌≢◌, ◌∙◌, ℕ, ◌+◌, ◌-◌, ◌^◌, ◌<◌, ◌≤◌, ◌&&◌, ◌↔◌, ◌⊎◌, ◌++◌}
+use Rattle.std.proofs.Common.{◌∷◌, [], Bool, true, false, not, cond, List, Option, Some, None, add_assoc, add-zero}
+use Rattle.std.proofs.Common.{ap, arith, get_or, length, min, refl, set, slice_get, slice_index, subst, sym, ⊎_elim}
 use Rattle.std.proofs.lemmas.Bool.{cases_Bool, cases_eq}
 use Rattle.std.proofs.lemmas.List.{get_or_append_left, get_or_default, get_or_push, get_or-set_other, get_or-set_same, length_push}
 use Rattle.std.proofs.lemmas.Option.{none-some}
@@ -58,10 +60,12 @@ capped-add most a b = omega arith
 abbrev pub IsCounted : Option ℕ → Held → Bool → Type 0
 IsCounted found hold spread = (r : ℕ) → (found ≡ Some r) ↔ ((is_at hold r ≡ true) × (spread ≡ false))
 
-counted-there : (found : Option ℕ) (hold : Held) (spread : Bool) (heat r : ℕ) → IsCounted found hold spread → found ≡ Some r → cond (is_at hold r && not spread) heat 0 ≡ heat
+counted-there : (found : Option ℕ) (hold : Held) (spread : Bool) (heat r : ℕ) → IsCounted found hold spread → found ≡ Some r
+    → cond (is_at hold r && not spread) heat 0 ≡ heat
 counted-there found hold spread heat r counts here = let is = (counts r).0 here in rw (is.0, is.1) refl
 
-counted-elsewhere : (found : Option ℕ) (hold : Held) (spread : Bool) (heat r : ℕ) → IsCounted found hold spread → found ≢ Some r → cond (is_at hold r && not spread) heat 0 ≡ 0
+counted-elsewhere : (found : Option ℕ) (hold : Held) (spread : Bool) (heat r : ℕ) → IsCounted found hold spread → found ≢ Some r
+    → cond (is_at hold r && not spread) heat 0 ≡ 0
 counted-elsewhere found hold spread heat r counts elsewhere =
     ⊎_elim (λ (at : is_at hold r ≡ true).
     ⊎_elim (λ (lies : spread ≡ true). rw (at, lies) refl)
@@ -79,14 +83,16 @@ held-split : (ds : List Directory) (holds : List Held) (warm : ℕ → ℕ) (r a
     → held_below_then ds holds warm r (at + 1) ≡ held_below_then ds holds warm r at + cond (is_at (held_at holds at) r && not (is_spread_at ds at)) (warm at) 0
 held-split ds holds warm r at = sum_below_more at (λ i. cond (is_at (held_at holds i) r && not (is_spread_at ds i)) (warm i) 0)
 
-unheld : (ds : List Directory) (holds : List Held) (warm : ℕ → ℕ) (found : Option ℕ) (r at : ℕ) → IsCounted found (held_at holds at) (is_spread_at ds at) → found ≢ Some r
+unheld : (ds : List Directory) (holds : List Held) (warm : ℕ → ℕ) (found : Option ℕ) (r at : ℕ)
+    → IsCounted found (held_at holds at) (is_spread_at ds at) → found ≢ Some r
     → held_below_then ds holds warm r at ≡ held_below_then ds holds warm r (at + 1)
 unheld ds holds warm found r at counts elsewhere =
     sym (held-split ds holds warm r at
     ∙ (ap (λ (k : ℕ). held_below_then ds holds warm r at + k) (counted-elsewhere found (held_at holds at) (is_spread_at ds at) (warm at) r counts elsewhere)
     ∙ add-zero (held_below_then ds holds warm r at)))
 
-pub held-same : (ds : List Directory) (holds : List Held) (warm : ℕ → ℕ) (spread heats : List ℕ) (at : ℕ) → IsCounted None (held_at holds at) (is_spread_at ds at)
+pub held-same : (ds : List Directory) (holds : List Held) (warm : ℕ → ℕ) (spread heats : List ℕ) (at : ℕ)
+    → IsCounted None (held_at holds at) (is_spread_at ds at)
     → AreHeld ds holds warm spread heats at → AreHeld ds holds warm spread heats (at + 1)
 held-same ds holds warm spread heats at counts before r l =
     before r l ∙ ap (λ (k : ℕ). min most_heat (slice_index spread r + k)) (unheld ds holds warm None r at counts (none-some r))
@@ -98,12 +104,14 @@ held-more ds holds warm spread heats at number sum size small counts is before r
     ⊎_elim (λ (same : r ≡ number).
     let here : held_below_then ds holds warm r (at + 1) ≡ held_below_then ds holds warm r at + warm at =
     held-split ds holds warm r at
-    ∙ ap (λ (k : ℕ). held_below_then ds holds warm r at + k) (counted-there (Some number) (held_at holds at) (is_spread_at ds at) (warm at) r counts (ap (λ (n : ℕ). Some n) (sym same))) in
+    ∙ ap (λ (k : ℕ). held_below_then ds holds warm r at + k)
+    (counted-there (Some number) (held_at holds at) (is_spread_at ds at) (warm at) r counts (ap (λ (n : ℕ). Some n) (sym same))) in
     ap (λ (k : ℕ). slice_index (set heats number sum) k) same
     ∙ (get_or-set_same heats number sum 0 (subst (λ (m : ℕ). number < m) (sym size) small)
     ∙ (is ∙ (ap (λ (k : ℕ). min most_heat (k + warm at)) (ap (slice_index heats) (sym same) ∙ before r l)
     ∙ (capped-add most_heat (slice_index spread r + held_below_then ds holds warm r at) (warm at)
-    ∙ ap (min most_heat) (add_assoc (slice_index spread r) (held_below_then ds holds warm r at) (warm at) ∙ ap (λ (k : ℕ). slice_index spread r + k) (sym here)))))))
+    ∙ ap (min most_heat) (add_assoc (slice_index spread r) (held_below_then ds holds warm r at) (warm at)
+    ∙ ap (λ (k : ℕ). slice_index spread r + k) (sym here)))))))
     (λ (other : r ≢ number).
     get_or-set_other heats number r sum 0 other
     ∙ (before r l ∙ ap (λ (k : ℕ). min most_heat (slice_index spread r + k))
@@ -114,7 +122,8 @@ held-more ds holds warm spread heats at number sum size small counts is before r
 pub held-alike : (ds : List Directory) (holds : List Held) (warm cool : ℕ → ℕ) (r n : ℕ) → ((i : ℕ) → i < n → warm i ≡ cool i)
     → held_below_then ds holds warm r n ≡ held_below_then ds holds cool r n
 held-alike ds holds warm cool r n same =
-    sum_below-same n (λ i. cond (is_at (held_at holds i) r && not (is_spread_at ds i)) (warm i) 0) (λ i. cond (is_at (held_at holds i) r && not (is_spread_at ds i)) (cool i) 0)
+    sum_below-same n (λ i. cond (is_at (held_at holds i) r && not (is_spread_at ds i)) (warm i) 0)
+    (λ i. cond (is_at (held_at holds i) r && not (is_spread_at ds i)) (cool i) 0)
     (λ i l. ap (λ (k : ℕ). cond (is_at (held_at holds i) r && not (is_spread_at ds i)) k 0) (same i l))
 
 -- the place before one that is neither the first nor the second

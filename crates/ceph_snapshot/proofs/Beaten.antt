@@ -1,5 +1,6 @@
 -- From the children of a directory to the directory: which are above a random policy.
-use Rattle.std.proofs.Common.{◌≡◌, ◌≢◌, ◌<◌, ◌≤◌, ◌+◌, ◌⊎◌, ◌↔◌, ◌&&◌, ◌||◌, ◌==◌, ℕ, zero, suc, Bool, true, false, List, length, get_or, slice_get, Option, Some, None, is_some, refl, ap, sym, ◌∙◌, arith, subst, ⊎_elim, inl, inr, nat_eq}
+use Rattle.std.proofs.Common.{◌≡◌, ◌≢◌, ◌<◌, ◌≤◌, ◌+◌, ◌⊎◌, ◌↔◌, ◌&&◌, ◌||◌, ◌==◌, ℕ, zero, suc, Bool, true, false, List}
+use Rattle.std.proofs.Common.{length, get_or, slice_get, Option, Some, None, is_some, refl, ap, sym, ◌∙◌, arith, subst, ⊎_elim, inl, inr, nat_eq}
 use Rattle.std.specs.Option.{option_map, option_map_or}
 use Rattle.std.proofs.lemmas.Bool.{cases_eq, cases_lt, eqb-true, eq-eqb}
 use Rattle.std.proofs.lemmas.Bool.{and_parts}
@@ -38,7 +39,8 @@ from_children : (ds : List Directory) (at : ℕ) → (HasBeaten ds (at + 1) at �
 from_children ds at (inl h) = record { steps = suc h.above.steps; policy = (h.child, h.parent, h.unpinned, h.above.policy) }
 from_children ds at (inr here) = record { steps = 0; policy = here }
 
-to_children : (ds : List Directory) (at steps : ℕ) → AreParentsFirst ds → 0 < at → LeadsToRandom ds steps at → HasBeaten ds (at + 1) at ⊎ (policy_at ds at ≡ Some Random)
+to_children : (ds : List Directory) (at steps : ℕ) → AreParentsFirst ds → 0 < at → LeadsToRandom ds steps at
+    → HasBeaten ds (at + 1) at ⊎ (policy_at ds at ≡ Some Random)
 to_children ds at zero first below here = inr here
 to_children ds at (suc n) first below is =
     let later : at < is.0 = child_later ds is.0 at first below is.1 in
@@ -106,7 +108,8 @@ beaten_more ds old new at is_so first below inside before so made i some low =
           let found : (old at ≡ true) ⊎ (policy_at ds at ≡ Some Random) =
           ⊎_elim (λ (b : HasBeaten ds (at + 1) at). inl (here.1 b)) (λ (p : policy_at ds at ≡ Some Random). inr p)
           (to_children ds at above.steps first below above.policy) in
-          is ∙ or_one (is_so && nat_eq i (parent_at ds at)) (old i) (and_both is_so (nat_eq i (parent_at ds at)) (so.1 (pin, found)) (eq-eqb i (parent_at ds at) parent)))
+          is ∙ or_one (is_so && nat_eq i (parent_at ds at)) (old i)
+          (and_both is_so (nat_eq i (parent_at ds at)) (so.1 (pin, found)) (eq-eqb i (parent_at ds at) parent)))
           (λ (other : h.child ≢ at).
           is ∙ or_other (is_so && nat_eq i (parent_at ds at)) (old i) ((before i some low).1 (record {
             child = h.child;
@@ -165,15 +168,18 @@ so_read ds at d was marked is_so read same is =
     (subst (λ (p : Option EphemeralPin). (is_so ≡ true) ↔ ((pin_at ds at ≡ None) × ((was ≡ true) ⊎ (p ≡ Some Random)))) policy
     (subst (λ (p : Option ℕ). (is_so ≡ true) ↔ ((p ≡ None) × ((was ≡ true) ⊎ (d.policy ≡ Some Random)))) pin is))
 
-map_parent : (b : Bool) (o : Option Directory) → option_map_or (λ (one : Directory). one.parent) (option_map (kept_where b) o) 0 ≡ option_map_or (λ (one : Directory). one.parent) o 0
+map_parent : (b : Bool) (o : Option Directory) → option_map_or (λ (one : Directory). one.parent) (option_map (kept_where b) o) 0
+    ≡ option_map_or (λ (one : Directory). one.parent) o 0
 map_parent b None = refl
 map_parent b (Some d) = refl
 
-map_pin : (b : Bool) (o : Option Directory) → option_map_or (λ (one : Directory). one.pin) (option_map (kept_where b) o) None ≡ option_map_or (λ (one : Directory). one.pin) o None
+map_pin : (b : Bool) (o : Option Directory) → option_map_or (λ (one : Directory). one.pin) (option_map (kept_where b) o) None
+    ≡ option_map_or (λ (one : Directory). one.pin) o None
 map_pin b None = refl
 map_pin b (Some d) = refl
 
-map_policy : (b : Bool) (o : Option Directory) → option_map_or (λ (one : Directory). one.policy) (option_map (kept_where b) o) None ≡ option_map_or (λ (one : Directory). one.policy) o None
+map_policy : (b : Bool) (o : Option Directory) → option_map_or (λ (one : Directory). one.policy) (option_map (kept_where b) o) None
+    ≡ option_map_or (λ (one : Directory). one.policy) o None
 map_policy b None = refl
 map_policy b (Some d) = refl
 
@@ -188,15 +194,18 @@ alike : (old new : List Directory) (marks : List Bool) → length new ≡ length
 alike old new marks size made = record {
   size = size;
   parents = λ i. ⊎_elim
-      (λ (inside : i < length old). ap (λ (o : Option Directory). option_map_or (λ (one : Directory). one.parent) o 0) (made i inside) ∙ map_parent (is_marked marks i) (slice_get old i))
+      (λ (inside : i < length old). ap (λ (o : Option Directory). option_map_or (λ (one : Directory). one.parent) o 0) (made i inside)
+      ∙ map_parent (is_marked marks i) (slice_get old i))
       (λ (past : length old ≤ i). ap (λ (o : Option Directory). option_map_or (λ (one : Directory). one.parent) o 0) (both_past old new i size past))
       (cases_lt i (length old));
   pins = λ i. ⊎_elim
-      (λ (inside : i < length old). ap (λ (o : Option Directory). option_map_or (λ (one : Directory). one.pin) o None) (made i inside) ∙ map_pin (is_marked marks i) (slice_get old i))
+      (λ (inside : i < length old). ap (λ (o : Option Directory). option_map_or (λ (one : Directory). one.pin) o None) (made i inside)
+      ∙ map_pin (is_marked marks i) (slice_get old i))
       (λ (past : length old ≤ i). ap (λ (o : Option Directory). option_map_or (λ (one : Directory). one.pin) o None) (both_past old new i size past))
       (cases_lt i (length old));
   policies = λ i. ⊎_elim
-      (λ (inside : i < length old). ap (λ (o : Option Directory). option_map_or (λ (one : Directory). one.policy) o None) (made i inside) ∙ map_policy (is_marked marks i) (slice_get old i))
+      (λ (inside : i < length old). ap (λ (o : Option Directory). option_map_or (λ (one : Directory). one.policy) o None) (made i inside)
+      ∙ map_policy (is_marked marks i) (slice_get old i))
       (λ (past : length old ≤ i). ap (λ (o : Option Directory). option_map_or (λ (one : Directory). one.policy) o None) (both_past old new i size past))
       (cases_lt i (length old));
 }
@@ -211,7 +220,8 @@ first_alike old new same first = record {
 kept_is : (b : Bool) (o : Option Directory) (d : Directory) → o ≡ Some d
     → option_map_or (λ (one : Directory). one.is_kept) (option_map (kept_where b) o) false
     ≡ b || (is_some (option_map_or (λ (one : Directory). one.policy) (option_map (kept_where b) o) None)
-    || (is_some (option_map_or (λ (one : Directory). one.idle) (option_map (kept_where b) o) None) || option_map_or (λ (one : Directory). one.is_doubtful) (option_map (kept_where b) o) false))
+    || (is_some (option_map_or (λ (one : Directory). one.idle) (option_map (kept_where b) o) None)
+    || option_map_or (λ (one : Directory). one.is_doubtful) (option_map (kept_where b) o) false))
 kept_is b o d is = rw is refl
 
 kept_at_is : (old new : List Directory) (marks : List Bool) (i : ℕ) → Marked old new marks → i < length old

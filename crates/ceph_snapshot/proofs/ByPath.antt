@@ -1,5 +1,7 @@
 -- What holds of the directory with a number, said of its path: whether it is spread, where it lies, and whether it is held.
-use Rattle.std.proofs.Common.{◌≡◌, ◌≢◌, ◌∙◌, ◌<◌, ◌+◌, ◌/◌, ◌∷◌, ◌==◌, ◌&&◌, ◌||◌, [], ℕ, suc, Bool, true, false, All, List, Option, Some, None, add-zero, ap, arith, cond, get_or, length, map, min, not, refl, set, slice_get, slice_index, subst, sum_by, sym, take, ⊎_elim}
+use Rattle.std.proofs.Common.{◌≡◌, ◌≢◌, ◌∙◌, ◌<◌, ◌+◌, ◌/◌, ◌∷◌, ◌==◌, ◌&&◌, ◌||◌, [], ℕ, suc}
+use Rattle.std.proofs.Common.{Bool, true, false, All, List, Option, Some, None, add-zero, ap, arith, cond, get_or}
+use Rattle.std.proofs.Common.{length, map, min, not, refl, set, slice_get, slice_index, subst, sum_by, sym, take, ⊎_elim}
 use Rattle.std.specs.List.{list_any}
 use Rattle.std.specs.Option.{option_map, option_map_or, unwrap_or}
 use Rattle.std.specs.Str.{bytes_eq}
@@ -19,12 +21,15 @@ use Rattle.ceph_snapshot.specs.declared.tree.Node.{Node}
 use Rattle.ceph_snapshot.specs.declared.tree.Sighting.{Sighting}
 use Rattle.ceph_snapshot.specs.Authority.{is_torn_at, is_true_of, node_path_at}
 use Rattle.ceph_snapshot.specs.Facts.{Fact}
-use Rattle.ceph_snapshot.specs.Gathered.{WhosePin, is_unknown_at, listed_at, listed_of, path_pin, path_pin_at, whose_pin, whose_pin_at, with_owner, with_unknown}
-use Rattle.ceph_snapshot.specs.Heard.{AreHeardAt, AreNumbersOf, ClaimsFragment, HasDirectory, HasTold, HeardRank, IsNotedIn, heard_at, is_borne_out, is_spread_path, is_unknown_path, spread_seen}
+use Rattle.ceph_snapshot.specs.Gathered.{WhosePin, is_unknown_at, listed_at, listed_of, path_pin}
+use Rattle.ceph_snapshot.specs.Gathered.{path_pin_at, whose_pin, whose_pin_at, with_owner, with_unknown}
+use Rattle.ceph_snapshot.specs.Heard.{AreHeardAt, AreNumbersOf, ClaimsFragment, HasDirectory, HasTold, HeardRank}
+use Rattle.ceph_snapshot.specs.Heard.{IsNotedIn, heard_at, is_borne_out, is_spread_path, is_unknown_path, spread_seen}
 use Rattle.ceph_snapshot.specs.Holding.{most_heat}
 use Rattle.ceph_snapshot.specs.Names.{path_number}
 use Rattle.ceph_snapshot.specs.Policies.{dir_path_at}
-use Rattle.ceph_snapshot.specs.Sightings.{Account, HaveOwnPaths, LieAt, PathHeat, Position, account_at, account_of, position_at, position_of, torn_heat, with_path}
+use Rattle.ceph_snapshot.specs.Sightings.{Account, HaveOwnPaths, LieAt, PathHeat, Position, account_at}
+use Rattle.ceph_snapshot.specs.Sightings.{account_of, position_at, position_of, torn_heat, with_path}
 use Rattle.ceph_snapshot.proofs.Adding.{capped-add}
 use Rattle.ceph_snapshot.proofs.Sighted.{same_path, seen_by_place}
 
@@ -61,14 +66,16 @@ dir_path d = d.path.items
 abbrev pub HavePathsOf : List Node → List Directory → Type 0
 HavePathsOf nodes ds = (i : ℕ) → option_map dir_path (slice_get ds i) ≡ option_map node_path (slice_get nodes i)
 
-path_of : (own : List OwnPin) (ranks : ℕ) (d : Option Directory) (n : Option Node) → option_map whose_pin d ≡ option_map (with_owner own ranks) (option_map path_pin n)
+path_of : (own : List OwnPin) (ranks : ℕ) (d : Option Directory) (n : Option Node)
+    → option_map whose_pin d ≡ option_map (with_owner own ranks) (option_map path_pin n)
     → option_map dir_path d ≡ option_map node_path n
 path_of own ranks None None is = refl
 path_of own ranks None (Some n) is = absurd (none-some (with_owner own ranks (path_pin n)) is)
 path_of own ranks (Some d) None is = absurd (none-some (whose_pin d) (sym is))
 path_of own ranks (Some d) (Some n) is = ap (option_map (λ (w : WhosePin). w.0)) is
 
-pub paths_of_nodes : (own : List OwnPin) (ranks : ℕ) (nodes : List Node) (ds : List Directory) → ((i : ℕ) → whose_pin_at ds i ≡ option_map (with_owner own ranks) (path_pin_at nodes i)) → HavePathsOf nodes ds
+pub paths_of_nodes : (own : List OwnPin) (ranks : ℕ) (nodes : List Node) (ds : List Directory)
+    → ((i : ℕ) → whose_pin_at ds i ≡ option_map (with_owner own ranks) (path_pin_at nodes i)) → HavePathsOf nodes ds
 paths_of_nodes own ranks nodes ds owner i = path_of own ranks (slice_get ds i) (slice_get nodes i) (owner i)
 
 -- what has a path is there
@@ -76,11 +83,13 @@ some_with : {X Y : Type 0} (f : X → Y) (o : Option X) (y : Y) → option_map f
 some_with f None y is = absurd (none-some y is)
 some_with f (Some x) y is = (x, refl, ap (λ o. unwrap_or o (f x)) is)
 
-only_node : (nodes : List Node) (i j : ℕ) (path : List ℕ) → HaveOwnPaths nodes → option_map node_path (slice_get nodes i) ≡ Some path → option_map node_path (slice_get nodes j) ≡ Some path → j ≡ i
+only_node : (nodes : List Node) (i j : ℕ) (path : List ℕ) → HaveOwnPaths nodes → option_map node_path (slice_get nodes i) ≡ Some path
+    → option_map node_path (slice_get nodes j) ≡ Some path → j ≡ i
 only_node nodes i j path own at other =
     let one = some_with node_path (slice_get nodes i) path at in
     let two = some_with node_path (slice_get nodes j) path other in
-    own j i (account_of two.0.directory) (account_of one.0.directory) (ap (option_map (λ (n : Node). account_of n.directory)) two.1) (ap (option_map (λ (n : Node). account_of n.directory)) one.1)
+    own j i (account_of two.0.directory) (account_of one.0.directory) (ap (option_map (λ (n : Node). account_of n.directory)) two.1)
+    (ap (option_map (λ (n : Node). account_of n.directory)) one.1)
     (two.2 ∙ sym one.2)
 
 path_read : (o : Option Node) → (n : Node) → o ≡ Some n → option_map_or (λ (one : Node). one.directory.path.items) o [] ≡ n.directory.path.items
@@ -99,7 +108,8 @@ at_path nodes ds i is own paths inside =
       found.0,
       found.1,
       unique_any dir_path is ds i found.0 (node_path_at nodes i) found.1 (found.2 ∙ sym read)
-          (λ j y at same. only_node nodes i j (node_path n) own named (sym (paths j) ∙ (ap (option_map dir_path) at ∙ ap (λ (p : List ℕ). Some p) (same ∙ read)))),
+          (λ j y at same. only_node nodes i j (node_path n) own named
+          (sym (paths j) ∙ (ap (option_map dir_path) at ∙ ap (λ (p : List ℕ). Some p) (same ∙ read)))),
     ))
     (λ none. absurd (omega (arith, inside, none.0)))
     (slice_get_cases nodes i).1
@@ -124,7 +134,8 @@ seen_there nodes ds ss seen paths inside is =
 -- The heat of what is spread.
 
 -- one more sighting
-pub spread_more : (nodes : List Node) (samples : ℕ) (ss : List Sighting) (at : ℕ) (s : Sighting) (spread : List ℕ) (rank sum : ℕ) → length spread ≡ 64 → at < length ss → get_or ss at s ≡ s → rank ≡ s.rank → rank < 64
+pub spread_more : (nodes : List Node) (samples : ℕ) (ss : List Sighting) (at : ℕ) (s : Sighting) (spread : List ℕ) (rank sum : ℕ)
+    → length spread ≡ 64 → at < length ss → get_or ss at s ≡ s → rank ≡ s.rank → rank < 64
     → sum ≡ min most_heat (slice_index spread rank + cond (is_torn_at nodes s.directory) s.heat 0 / samples)
     → ((r : ℕ) → r < 64 → slice_index spread r ≡ min most_heat (sum_by (torn_heat nodes samples r) (take at ss)))
     → (r : ℕ) → r < 64 → slice_index (set spread rank sum) r ≡ min most_heat (sum_by (torn_heat nodes samples r) (take (at + 1) ss))
@@ -134,9 +145,11 @@ spread_more nodes samples ss at s spread rank sum size inside is rank_is small s
     ap (slice_index (set spread rank sum)) same
     ∙ (get_or-set_same spread rank sum 0 (subst (λ (m : ℕ). rank < m) (sym size) small)
     ∙ (sum_is ∙ (ap (λ (k : ℕ). min most_heat (k + cond (is_torn_at nodes s.directory) s.heat 0 / samples)) (ap (slice_index spread) (sym same) ∙ before r l)
-    ∙ (capped-add most_heat so_far (cond (is_torn_at nodes s.directory) s.heat 0 / samples) ∙ ap (min most_heat) (ap (λ (k : ℕ). so_far + k) (sym (counted same)) ∙ sym more))))))
+    ∙ (capped-add most_heat so_far (cond (is_torn_at nodes s.directory) s.heat 0 / samples)
+    ∙ ap (min most_heat) (ap (λ (k : ℕ). so_far + k) (sym (counted same)) ∙ sym more))))))
     (λ (other : r ≢ rank).
-    get_or-set_other spread rank r sum 0 other ∙ (before r l ∙ ap (min most_heat) (sym (add-zero so_far) ∙ (ap (λ (k : ℕ). so_far + k) (sym (elsewhere other)) ∙ sym more))))
+    get_or-set_other spread rank r sum 0 other
+    ∙ (before r l ∙ ap (min most_heat) (sym (add-zero so_far) ∙ (ap (λ (k : ℕ). so_far + k) (sym (elsewhere other)) ∙ sym more))))
     (cases_eq r rank) where
       f : Sighting → ℕ
       f = torn_heat nodes samples r
@@ -152,10 +165,12 @@ spread_more nodes samples ss at s spread rank sum size inside is rank_is small s
       divided false = sym (zero-div samples)
 
       counted : r ≡ rank → f s ≡ cond (is_torn_at nodes s.directory) s.heat 0 / samples
-      counted same = ap (λ (b : Bool). cond (b && is_torn_at nodes s.directory) (s.heat / samples) 0) (eq-eqb s.rank r (sym rank_is ∙ sym same)) ∙ divided (is_torn_at nodes s.directory)
+      counted same = ap (λ (b : Bool). cond (b && is_torn_at nodes s.directory) (s.heat / samples) 0)
+          (eq-eqb s.rank r (sym rank_is ∙ sym same)) ∙ divided (is_torn_at nodes s.directory)
 
       elsewhere : r ≢ rank → f s ≡ 0
-      elsewhere other = ap (λ (b : Bool). cond (b && is_torn_at nodes s.directory) (s.heat / samples) 0) (ne_eqb s.rank r (λ same. other (sym same ∙ sym rank_is)))
+      elsewhere other = ap (λ (b : Bool). cond (b && is_torn_at nodes s.directory) (s.heat / samples) 0)
+          (ne_eqb s.rank r (λ same. other (sym same ∙ sym rank_is)))
 
 torn_by : (o p : Option Node) → option_map (λ (n : Node). position_of n.directory) o ≡ option_map (λ (n : Node). position_of n.directory) p
     → option_map_or (λ (n : Node). n.directory.is_spread) o false ≡ option_map_or (λ (n : Node). n.directory.is_spread) p false
@@ -167,18 +182,22 @@ torn_by (Some n) (Some m) is = ap (λ (o : Option Position). option_map_or (λ (
 pub torn_same : (old new : List Node) → ((i : ℕ) → position_at new i ≡ position_at old i) → (i : ℕ) → is_torn_at new i ≡ is_torn_at old i
 torn_same old new same i = torn_by (slice_get new i) (slice_get old i) (same i)
 
-torn_dir : (n : Option Node) (d : Directory) → Some (position_of d) ≡ option_map (λ (one : Node). position_of one.directory) n → option_map_or (λ (one : Node). one.directory.is_spread) n false ≡ d.is_spread
+torn_dir : (n : Option Node) (d : Directory) → Some (position_of d) ≡ option_map (λ (one : Node). position_of one.directory) n
+    → option_map_or (λ (one : Node). one.directory.is_spread) n false ≡ d.is_spread
 torn_dir None d is = absurd (none-some (position_of d) (sym is))
 torn_dir (Some n) d is = ap (λ (o : Option Position). option_map_or (λ (t : Position). t.0) o false) (sym is)
 
 -- by the paths of the directories
-pub spread_by_path : (nodes held : List Node) (ds : List Directory) (samples rank : ℕ) (ss : List Sighting) → HaveOwnPaths nodes → HavePathsOf nodes ds → LieAt held ds
-    → All (λ (s : Sighting). s.directory < length nodes) ss → sum_by (torn_heat held samples rank) ss ≡ sum_by (spread_seen ds samples rank) (map (with_path nodes) ss)
+pub spread_by_path : (nodes held : List Node) (ds : List Directory) (samples rank : ℕ) (ss : List Sighting) → HaveOwnPaths nodes
+    → HavePathsOf nodes ds → LieAt held ds
+    → All (λ (s : Sighting). s.directory < length nodes) ss
+    → sum_by (torn_heat held samples rank) ss ≡ sum_by (spread_seen ds samples rank) (map (with_path nodes) ss)
 spread_by_path nodes held ds samples rank [] own paths lie inside = refl
 spread_by_path nodes held ds samples rank (s ∷ ss) own paths lie inside =
     sum_by-cons (torn_heat held samples rank) s ss
     ∙ (ap (λ (k : ℕ). k + sum_by (torn_heat held samples rank) ss) here
-    ∙ (ap (λ (k : ℕ). spread_seen ds samples rank (with_path nodes s) + k) (spread_by_path nodes held ds samples rank ss own paths lie (λ k e l. inside (suc k) e (omega (arith, l))))
+    ∙ (ap (λ (k : ℕ). spread_seen ds samples rank (with_path nodes s) + k)
+    (spread_by_path nodes held ds samples rank ss own paths lie (λ k e l. inside (suc k) e (omega (arith, l))))
     ∙ sym (sum_by-cons (spread_seen ds samples rank) (with_path nodes s) (map (with_path nodes) ss)))) where
       torn : is_torn_at held s.directory ≡ is_spread_path ds (node_path_at nodes s.directory)
       torn =
@@ -199,13 +218,15 @@ true_dir : (n : Option Node) (d : Directory) (authority : ℕ) → Some (positio
 true_dir None d authority is = absurd (none-some (position_of d) (sym is))
 true_dir (Some n) d authority is = lies_by d n.directory authority (ap (λ (o : Option Position). unwrap_or o (position_of d)) is)
 
-borne_out : (nodes placed : List Node) (ds : List Directory) (said : Hearsay) → HaveOwnPaths nodes → HavePathsOf nodes ds → LieAt placed ds → said.directory < length nodes
+borne_out : (nodes placed : List Node) (ds : List Directory) (said : Hearsay) → HaveOwnPaths nodes → HavePathsOf nodes ds → LieAt placed ds
+    → said.directory < length nodes
     → is_borne_out ds (heard_at nodes said) ≡ is_true_of placed said
 borne_out nodes placed ds said own paths lie inside =
     let at = at_path nodes ds said.directory (λ d. d.is_spread || (d.now == said.authority)) own paths inside in
     at.2 ∙ true_dir (slice_get placed said.directory) at.0 said.authority (sym (ap (option_map position_of) at.1) ∙ lie said.directory)
 
-pub all_borne_out : (nodes placed : List Node) (ds : List Directory) (hearsay : List Hearsay) (heard : List HeardRank) → HaveOwnPaths nodes → HavePathsOf nodes ds → LieAt placed ds
+pub all_borne_out : (nodes placed : List Node) (ds : List Directory) (hearsay : List Hearsay) (heard : List HeardRank) → HaveOwnPaths nodes
+    → HavePathsOf nodes ds → LieAt placed ds
     → AreHeardAt nodes hearsay heard → All (λ said. is_true_of placed said ≡ true) hearsay → All (λ h. is_borne_out ds h ≡ true) heard
 all_borne_out nodes placed ds hearsay heard own paths lie are holds =
     subst (All (λ (h : HeardRank). is_borne_out ds h ≡ true)) are.are
@@ -214,7 +235,8 @@ all_borne_out nodes placed ds hearsay heard own paths lie are holds =
 
 -- Which directories are held as a whole.
 
-tops_by_path : (nodes : List Node) (i : ℕ) (t : Account) (tops : List ℕ) → HaveOwnPaths nodes → account_at nodes i ≡ Some t → All (λ top. top < length nodes) tops
+tops_by_path : (nodes : List Node) (i : ℕ) (t : Account) (tops : List ℕ) → HaveOwnPaths nodes → account_at nodes i ≡ Some t
+    → All (λ top. top < length nodes) tops
     → list_any (λ top. top == i) tops ≡ list_any (λ path. bytes_eq path t.0) (map (node_path_at nodes) tops)
 tops_by_path nodes i t [] own there inside = refl
 tops_by_path nodes i t (top ∷ tops) own there inside =
@@ -225,7 +247,8 @@ read_dir_path : (d : Option Directory) (p : List ℕ) → option_map dir_path d 
 read_dir_path None p is = absurd (none-some p is)
 read_dir_path (Some d) p is = ap (λ (o : Option (List ℕ)). unwrap_or o p) is
 
-pub listed_by_path : (nodes : List Node) (ds : List Directory) (tops : List ℕ) (paths : List (List ℕ)) (listed : Bool) → HaveOwnPaths nodes → HavePathsOf nodes ds → AreNumbersOf nodes tops paths
+pub listed_by_path : (nodes : List Node) (ds : List Directory) (tops : List ℕ) (paths : List (List ℕ)) (listed : Bool) → HaveOwnPaths nodes
+    → HavePathsOf nodes ds → AreNumbersOf nodes tops paths
     → ((i : ℕ) → option_map listed_of (slice_get ds i) ≡ option_map (with_unknown (is_unknown_at listed tops i)) (listed_at nodes i))
     → (i : ℕ) → option_map listed_of (slice_get ds i) ≡ option_map (with_unknown (is_unknown_path listed paths (dir_path_at ds i))) (listed_at nodes i)
 listed_by_path nodes ds tops paths listed own alike are all i =
@@ -241,14 +264,17 @@ listed_by_path nodes ds tops paths listed own alike are all i =
     ap (λ (b : Bool). option_map (with_unknown (not listed && b)) (listed_at nodes i)) same)
     (λ none.
     let past : listed_at nodes i ≡ None = ap (option_map (λ (one : Node). listed_of one.directory)) none.1 in
-    ap (option_map (with_unknown (is_unknown_at listed tops i))) past ∙ sym (ap (option_map (with_unknown (is_unknown_path listed paths (dir_path_at ds i)))) past))
+    ap (option_map (with_unknown (is_unknown_at listed tops i))) past
+    ∙ sym (ap (option_map (with_unknown (is_unknown_path listed paths (dir_path_at ds i)))) past))
     (slice_get_cases nodes i).1
 
 -- Who claims a fragment.
 
-noted : (g : Gathering) (facts : List Fact) (rank : ℕ) (fragment : List ℕ) → HasTold g facts → ClaimsFragment facts rank fragment → path_number g.fragments fragment ≡ Some rank
+noted : (g : Gathering) (facts : List Fact) (rank : ℕ) (fragment : List ℕ) → HasTold g facts → ClaimsFragment facts rank fragment
+    → path_number g.fragments fragment ≡ Some rank
 noted g facts rank fragment was (f, (i, (inside, is)), claim) = subst (IsNotedIn g.fragments) (sym is) (was.claims i f inside) rank fragment claim
 
-pub claimed_once : (g : Gathering) (facts : List Fact) → HasTold g facts → (one two : ℕ) (fragment : List ℕ) → ClaimsFragment facts one fragment → ClaimsFragment facts two fragment → one ≡ two
+pub claimed_once : (g : Gathering) (facts : List Fact) → HasTold g facts → (one two : ℕ) (fragment : List ℕ)
+    → ClaimsFragment facts one fragment → ClaimsFragment facts two fragment → one ≡ two
 claimed_once g facts was one two fragment first second =
     ap (λ (o : Option ℕ). unwrap_or o 0) (sym (noted g facts one fragment was first) ∙ noted g facts two fragment was second)

@@ -1,5 +1,6 @@
 -- From what holds a directory's parent to what holds the directory.
-use Rattle.std.proofs.Common.{◌≡◌, ◌≢◌, ◌<◌, ◌+◌, ◌||◌, ◌++◌, ℕ, zero, suc, Bool, true, false, is_some, List, [], ◌∷◌, length, slice_get, Option, Some, None, refl, ap, sym, ◌∙◌, arith, subst, ⊎_elim}
+use Rattle.std.proofs.Common.{◌≡◌, ◌≢◌, ◌<◌, ◌+◌, ◌||◌, ◌++◌, ℕ, zero, suc, Bool, true, false, is_some, List}
+use Rattle.std.proofs.Common.{[], ◌∷◌, length, slice_get, Option, Some, None, refl, ap, sym, ◌∙◌, arith, subst, ⊎_elim}
 use Rattle.std.specs.Option.{option_map_or}
 use Rattle.std.proofs.lemmas.Bool.{cases_eq, cases_Bool}
 use Rattle.ceph_snapshot.specs.declared.directory.Directory.{Directory}
@@ -39,7 +40,8 @@ holder_above ds i holder zero not_own there below holding nearer =
 holder_above ds i holder (suc n) not_own there below holding nearer =
     record { steps = n; there = there; below = below; holding = holding; nearer = λ m l. nearer (suc m) (omega (arith, l)) }
 
-nearer_more : (ds : List Directory) (i : ℕ) → is_holding ds i ≡ false → (steps : ℕ) → ((n : ℕ) → n < steps → is_holding ds (climb ds n (parent_at ds i)) ≡ false)
+nearer_more : (ds : List Directory) (i : ℕ) → is_holding ds i ≡ false → (steps : ℕ)
+    → ((n : ℕ) → n < steps → is_holding ds (climb ds n (parent_at ds i)) ≡ false)
     → (n : ℕ) → n < suc steps → is_holding ds (climb ds n i) ≡ false
 nearer_more ds i not_own steps nearer zero l = not_own
 nearer_more ds i not_own steps nearer (suc n) l = nearer n (omega (arith, l))

@@ -20,9 +20,11 @@ pub inserted : {X S : Type 0} (m n : HashMap (Vec ℕ Global) X S) (bs : List �
     → (cs : List ℕ) → get_by (λ (k : Vec ℕ Global). bytes_eq cs k.items) n ≡ cond (bytes_eq bs cs) w (get_by (λ (k : Vec ℕ Global). bytes_eq cs k.items) m)
 inserted m n bs w h cs =
     ⊎_elim
-    (λ (same : bytes_eq bs cs ≡ true). subst (λ (l : List ℕ). get_by (λ (k : Vec ℕ Global). bytes_eq l k.items) n ≡ w) ((bytes_eq-Decides bs cs).0 same) h.1 ∙ sym (cond-true (bytes_eq bs cs) w _ same))
+    (λ (same : bytes_eq bs cs ≡ true). subst (λ (l : List ℕ). get_by (λ (k : Vec ℕ Global). bytes_eq l k.items) n ≡ w)
+    ((bytes_eq-Decides bs cs).0 same) h.1 ∙ sym (cond-true (bytes_eq bs cs) w _ same))
     (λ (other : bytes_eq bs cs ≡ false).
-    others (λ (x y : Vec ℕ Global). bytes_eq x.items y.items) (λ (k : Vec ℕ Global). bytes_eq bs k.items) m.entries n.entries h.3 (λ (k : Vec ℕ Global). bytes_eq cs k.items)
+    others (λ (x y : Vec ℕ Global). bytes_eq x.items y.items) (λ (k : Vec ℕ Global). bytes_eq bs k.items) m.entries n.entries h.3
+    (λ (k : Vec ℕ Global). bytes_eq cs k.items)
     (λ x y. nat_list_eq_equiv.congr cs x.items y.items) (λ k. apart bs cs k.items other)
     ∙ sym (cond-false (bytes_eq bs cs) w _ other))
     (cases_Bool (bytes_eq bs cs))

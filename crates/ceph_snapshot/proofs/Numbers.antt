@@ -1,5 +1,7 @@
 -- Each directory keeps its number, and each sighting its path, as more directories are named and more is known of them.
-use Rattle.std.proofs.Common.{◌≡◌, ◌≢◌, ◌∙◌, ◌<◌, ◌≤◌, ◌+◌, ◌++◌, ◌∷◌, [], ℕ, suc, Bool, false, true, All, List, Option, Some, None, length, length-append, length-set, map, slice_get, set, refl, ap, sym, subst, take, get_or, arith, ⊎_elim, cond, slice_index_or}
+use Rattle.std.proofs.Common.{◌≡◌, ◌≢◌, ◌∙◌, ◌<◌, ◌≤◌, ◌+◌, ◌++◌, ◌∷◌, [], ℕ, suc, Bool}
+use Rattle.std.proofs.Common.{false, true, All, List, Option, Some, None, length, length-append, length-set, map, slice_get}
+use Rattle.std.proofs.Common.{set, refl, ap, sym, subst, take, get_or, arith, ⊎_elim, cond, slice_index_or}
 use Rattle.std.specs.List.{filter}
 use Rattle.std.specs.Option.{option_map, option_map_or, unwrap_or}
 use Rattle.std.specs.Str.{bytes_eq}
@@ -14,7 +16,8 @@ use Rattle.ceph_snapshot.specs.declared.tree.Node.{Node}
 use Rattle.ceph_snapshot.specs.declared.tree.Sighting.{Sighting}
 use Rattle.ceph_snapshot.specs.Authority.{above_at, is_user_path, node_path_at}
 use Rattle.ceph_snapshot.specs.Names.{path_number}
-use Rattle.ceph_snapshot.specs.Sightings.{AreCold, HaveOwnPaths, IsNumberOf, IsNumbered, IsParentOf, PathHeat, Account, of_fragment, seen_in, account_of, account_at, with_path}
+use Rattle.ceph_snapshot.specs.Sightings.{AreCold, HaveOwnPaths, IsNumberOf, IsNumbered, IsParentOf, PathHeat}
+use Rattle.ceph_snapshot.specs.Sightings.{Account, of_fragment, seen_in, account_of, account_at, with_path}
 use Rattle.ceph_snapshot.proofs.Parents.{below_more, below_root, below_same, get_end, get_more, inside_of}
 use Rattle.ceph_snapshot.proofs.Placing.{set-same}
 
@@ -22,7 +25,8 @@ abbrev told : Node → Account
 told n = account_of n.directory
 
 -- the path of a directory by what is told of it
-path_of : (o : Option Node) → option_map_or (λ (n : Node). n.directory.path.items) o [] ≡ option_map_or (λ (t : Account). t.0) (option_map (λ (n : Node). account_of n.directory) o) []
+path_of : (o : Option Node) → option_map_or (λ (n : Node). n.directory.path.items) o []
+    ≡ option_map_or (λ (t : Account). t.0) (option_map (λ (n : Node). account_of n.directory) o) []
 path_of None = refl
 path_of (Some n) = refl
 
@@ -30,7 +34,8 @@ pub path_account : (nodes : List Node) (i : ℕ) (t : Account) → account_at no
 path_account nodes i t is = path_of (slice_get nodes i) ∙ ap (λ (o : Option Account). option_map_or (λ (one : Account). one.0) o []) is
 
 pub path_same : (old new : List Node) (i : ℕ) → account_at new i ≡ account_at old i → node_path_at new i ≡ node_path_at old i
-path_same old new i same = path_of (slice_get new i) ∙ (ap (λ (o : Option Account). option_map_or (λ (t : Account). t.0) o []) same ∙ sym (path_of (slice_get old i)))
+path_same old new i same = path_of (slice_get new i)
+    ∙ (ap (λ (o : Option Account). option_map_or (λ (t : Account). t.0) o []) same ∙ sym (path_of (slice_get old i)))
 
 parent_of : (o : Option Node) → option_map_or (λ (n : Node). n.directory.parent) o 0 ≡ unwrap_or (option_map (λ (n : Node). n.directory.parent) o) 0
 parent_of None = refl
@@ -40,7 +45,8 @@ parent_same : (new old : Option Node) → option_map (λ (n : Node). n.directory
     → option_map_or (λ (n : Node). n.directory.parent) new 0 ≡ option_map_or (λ (n : Node). n.directory.parent) old 0
 parent_same new old same = parent_of new ∙ (ap (λ (o : Option ℕ). unwrap_or o 0) same ∙ sym (parent_of old))
 
-pub seen_same : (old new : List Node) (ss : List Sighting) → ((i : ℕ) → i < length old → account_at new i ≡ account_at old i) → All (λ (s : Sighting). s.directory < length old) ss
+pub seen_same : (old new : List Node) (ss : List Sighting) → ((i : ℕ) → i < length old → account_at new i ≡ account_at old i)
+    → All (λ (s : Sighting). s.directory < length old) ss
     → map (with_path new) ss ≡ map (with_path old) ss
 seen_same old new [] same inside = refl
 seen_same old new (s ∷ ss) same inside =
@@ -62,7 +68,8 @@ account_more nodes n i l = ap (option_map (λ (one : Node). account_of one.direc
 
 -- a directory with a path that had no number
 pub numbered_more : (names new : Names) (nodes : List Node) (n : Node) (path : List ℕ) (number : ℕ) (ss : List Sighting) → path_number names path ≡ None
-    → ((p : List ℕ) → path_number new p ≡ cond (bytes_eq path p) (Some number) (path_number names p)) → number ≡ length nodes → account_of n.directory ≡ (path, (0, (0, None)))
+    → ((p : List ℕ) → path_number new p ≡ cond (bytes_eq path p) (Some number) (path_number names p)) → number ≡ length nodes
+    → account_of n.directory ≡ (path, (0, (0, None)))
     → IsParentOf nodes n.directory.path.items n.directory.parent → IsNumbered names nodes ss → IsNumbered new (nodes ++ n ∷ []) ss
 numbered_more names new nodes n path number ss fresh put is cold below was = record {
   named = λ p i h.
@@ -72,7 +79,8 @@ numbered_more names new nodes n path number ss fresh put is cold below was = rec
       subst (λ (k : ℕ). account_at (nodes ++ n ∷ []) k ≡ Some (p, (0, (0, None)))) (sym is ∙ here)
       (told_end ∙ ap (λ (q : List ℕ). Some (q, (0, (0, None)))) ((bytes_eq-Decides path p).0 same)))
       (λ (other : bytes_eq path p ≡ false).
-      let there : account_at nodes i ≡ Some (p, (0, (0, None))) = was.named p i (sym (put p ∙ cond-false (bytes_eq path p) (Some number) (path_number names p) other) ∙ h) in
+      let there : account_at nodes i ≡ Some (p, (0, (0, None))) =
+      was.named p i (sym (put p ∙ cond-false (bytes_eq path p) (Some number) (path_number names p) other) ∙ h) in
       account_more nodes n i (inside_of told nodes i (p, (0, (0, None))) there) ∙ there)
       (cases_Bool (bytes_eq path p));
   numbered = λ i t h.
@@ -80,8 +88,10 @@ numbered_more names new nodes n path number ss fresh put is cold below was = rec
       (λ (l : i < length nodes). before i t (was.numbered i t (sym (account_more nodes n i l) ∙ h)))
       (λ (from : length nodes ≤ i).
       let end : i ≡ length nodes = omega (arith, from, inside_of told (nodes ++ n ∷ []) i t h, long) in
-      let same : path ≡ t.0 = ap (λ (o : Option Account). option_map_or (λ (one : Account). one.0) o []) (sym told_end ∙ (ap (account_at (nodes ++ n ∷ [])) (sym end) ∙ h)) in
-      put t.0 ∙ (cond-true (bytes_eq path t.0) (Some number) (path_number names t.0) ((bytes_eq-Decides path t.0).1 same) ∙ ap (λ (k : ℕ). Some k) (is ∙ sym end)))
+      let same : path ≡ t.0 = ap (λ (o : Option Account). option_map_or (λ (one : Account). one.0) o [])
+      (sym told_end ∙ (ap (account_at (nodes ++ n ∷ [])) (sym end) ∙ h)) in
+      put t.0 ∙ (cond-true (bytes_eq path t.0) (Some number) (path_number names t.0) ((bytes_eq-Decides path t.0).1 same)
+      ∙ ap (λ (k : ℕ). Some k) (is ∙ sym end)))
       (cases_lt i (length nodes));
   inside = λ k d l. omega (arith, was.inside k d l, long);
   below = below_more nodes n below was.below;
@@ -100,7 +110,8 @@ numbered_more names new nodes n path number ss fresh put is cold below was = rec
       (cases_Bool (bytes_eq path t.0))
 
 -- only the root
-pub numbered_root : (names : Names) (n : Node) → ((p : List ℕ) → path_number names p ≡ cond (bytes_eq [] p) (Some 0) None) → account_of n.directory ≡ ([], (0, (0, None)))
+pub numbered_root : (names : Names) (n : Node) → ((p : List ℕ) → path_number names p ≡ cond (bytes_eq [] p) (Some 0) None)
+    → account_of n.directory ≡ ([], (0, (0, None)))
     → n.directory.parent ≡ 0 → IsNumbered names (n ∷ []) []
 numbered_root names n put cold parent = record {
   named = λ p i h.
@@ -113,13 +124,15 @@ numbered_root names n put cold parent = record {
       (cases_Bool (bytes_eq [] p));
   numbered = λ i t h.
       let end : i ≡ 0 = omega (arith, inside_of told (n ∷ []) i t h) in
-      let same : [] ≡ t.0 = ap (λ (o : Option Account). option_map_or (λ (one : Account). one.0) o []) (sym (ap (λ (t : Account). Some t) cold) ∙ (ap (account_at (n ∷ [])) (sym end) ∙ h)) in
+      let same : [] ≡ t.0 = ap (λ (o : Option Account). option_map_or (λ (one : Account). one.0) o [])
+      (sym (ap (λ (t : Account). Some t) cold) ∙ (ap (account_at (n ∷ [])) (sym end) ∙ h)) in
       put t.0 ∙ (cond-true (bytes_eq [] t.0) (Some 0) None ((bytes_eq-Decides [] t.0).1 same) ∙ ap (λ (k : ℕ). Some k) (sym end));
   inside = λ k d l. absurd (omega (arith, l));
   below = below_root n (ap (λ (t : Account). t.0) cold) parent;
 }
 
-pub at_number : (names : Names) (nodes : List Node) (ss : List Sighting) (path : List ℕ) (i : ℕ) → IsNumbered names nodes ss → path_number names path ≡ Some i → IsNumberOf nodes path i
+pub at_number : (names : Names) (nodes : List Node) (ss : List Sighting) (path : List ℕ) (i : ℕ) → IsNumbered names nodes ss
+    → path_number names path ≡ Some i → IsNumberOf nodes path i
 at_number names nodes ss path i was h =
     let there : account_at nodes i ≡ Some (path, (0, (0, None))) = was.named path i h in
     record {
@@ -132,12 +145,14 @@ root_number names nodes ss was =
     ⊎_elim
     (λ some.
     let at : account_at nodes 0 ≡ Some (account_of some.0.directory) = ap (option_map (λ (n : Node). account_of n.directory)) some.2 in
-    subst (λ (p : List ℕ). path_number names p ≡ Some 0) (sym (path_account nodes 0 (account_of some.0.directory) at) ∙ was.below.path) (was.numbered 0 (account_of some.0.directory) at))
+    subst (λ (p : List ℕ). path_number names p ≡ Some 0) (sym (path_account nodes 0 (account_of some.0.directory) at) ∙ was.below.path)
+    (was.numbered 0 (account_of some.0.directory) at))
     (λ none. absurd (omega (arith, was.below.some, none.0)))
     (slice_get_cases nodes 0).1
 
 -- the path of a directory of users that isn't the root begins with a slash
-pub begins_with_slash : (names : Names) (nodes : List Node) (ss : List Sighting) (path : List ℕ) → IsNumbered names nodes ss → is_user_path path ≡ true → path_number names path ≢ Some 0
+pub begins_with_slash : (names : Names) (nodes : List Node) (ss : List Sighting) (path : List ℕ) → IsNumbered names nodes ss
+    → is_user_path path ≡ true → path_number names path ≢ Some 0
     → slice_index_or path 0 0 ≡ 47
 begins_with_slash names nodes ss [] was user other = absurd (other (root_number names nodes ss was))
 begins_with_slash names nodes ss (c ∷ cs) was user other =
@@ -154,13 +169,18 @@ cold_all names nodes ss was = λ i t h.
     ap (λ (o : Option Account). unwrap_or o t) (sym h ∙ was.named t.0 i (was.numbered i t h))
 
 -- more is known of a directory
-pub numbered_set : (names : Names) (nodes : List Node) (at : ℕ) (old new : Node) (ss : List Sighting) → at < length nodes → slice_get nodes at ≡ Some old → account_of new.directory ≡ account_of old.directory
-    → new.directory.parent ≡ old.directory.parent → IsNumbered names nodes ss → IsNumbered names (set nodes at new) ss × (map (with_path (set nodes at new)) ss ≡ map (with_path nodes) ss)
+pub numbered_set : (names : Names) (nodes : List Node) (at : ℕ) (old new : Node) (ss : List Sighting) → at < length nodes
+    → slice_get nodes at ≡ Some old → account_of new.directory ≡ account_of old.directory
+    → new.directory.parent ≡ old.directory.parent → IsNumbered names nodes ss
+    → IsNumbered names (set nodes at new) ss × (map (with_path (set nodes at new)) ss ≡ map (with_path nodes) ss)
 numbered_set names nodes at old new ss l read same parent was =
     let parents : (i : ℕ) → above_at (set nodes at new) i ≡ above_at nodes i =
     λ i. parent_same (slice_get (set nodes at new) i) (slice_get nodes i) (set-same (λ (n : Node). n.directory.parent) nodes at old new l read parent i) in
-    let account_same : (i : ℕ) → account_at (set nodes at new) i ≡ account_at nodes i = set-same (λ (n : Node). account_of n.directory) nodes at old new l read same in
-    (numbered_same names nodes (set nodes at new) ss (length-set nodes at new) account_same parents was, seen_same nodes (set nodes at new) ss (λ i _. account_same i) was.inside)
+    let account_same : (i : ℕ) → account_at (set nodes at new) i
+    ≡ account_at nodes i = set-same (λ (n : Node). account_of n.directory) nodes at old new l read same in (
+      numbered_same names nodes (set nodes at new) ss (length-set nodes at new) account_same parents was,
+      seen_same nodes (set nodes at new) ss (λ i _. account_same i) was.inside,
+    )
 
 -- one more fragment of a sample
 pub seen_more : (rank : ℕ) (fs : List FragmentHeat) (at : ℕ) (f : FragmentHeat) → at < length fs → get_or fs at f ≡ f

@@ -27,11 +27,13 @@ still {X} f change same xs ys size made i =
       one (Some x) = ap Some (same i x)
 
 pub owner_kept : (old new : List Directory) (marks : List Bool) → length new ≡ length old
-    → ((i : ℕ) → i < length old → slice_get new i ≡ option_map (kept_where (is_marked marks i)) (slice_get old i)) → (i : ℕ) → whose_pin_at new i ≡ whose_pin_at old i
+    → ((i : ℕ) → i < length old → slice_get new i ≡ option_map (kept_where (is_marked marks i)) (slice_get old i)) → (i : ℕ)
+    → whose_pin_at new i ≡ whose_pin_at old i
 owner_kept old new marks size kept i = still whose_pin (λ k. kept_where (is_marked marks k)) (λ k d. refl) old new size kept i
 
 pub numbers_kept : (old new : List Directory) (marks : List Bool) → length new ≡ length old
-    → ((i : ℕ) → i < length old → slice_get new i ≡ option_map (kept_where (is_marked marks i)) (slice_get old i)) → (i : ℕ) → numbers_at new i ≡ numbers_at old i
+    → ((i : ℕ) → i < length old → slice_get new i ≡ option_map (kept_where (is_marked marks i)) (slice_get old i)) → (i : ℕ)
+    → numbers_at new i ≡ numbers_at old i
 numbers_kept old new marks size kept i = still numbers_of (λ k. kept_where (is_marked marks k)) (λ k d. refl) old new size kept i
 
 pub pin_placed : (nodes placed : List Node) → LieAsClaimed nodes placed → (i : ℕ) → path_pin_at placed i ≡ path_pin_at nodes i
@@ -40,16 +42,19 @@ pin_placed nodes placed are i =
 
 pub account_placed : (nodes placed : List Node) → LieAsClaimed nodes placed → (i : ℕ) → account_at placed i ≡ account_at nodes i
 account_placed nodes placed are i =
-    still (λ (n : Node). account_of n.directory) (λ k. placed_node (rank_above nodes placed k) (is_torn_above nodes placed k)) (λ k n. refl) nodes placed are.size are.at i
+    still (λ (n : Node). account_of n.directory) (λ k. placed_node (rank_above nodes placed k) (is_torn_above nodes placed k)) (λ k n. refl)
+    nodes placed are.size are.at i
 
 pub listed_placed : (nodes placed : List Node) → LieAsClaimed nodes placed → (i : ℕ) → listed_at placed i ≡ listed_at nodes i
 listed_placed nodes placed are i =
-    still (λ (n : Node). listed_of n.directory) (λ k. placed_node (rank_above nodes placed k) (is_torn_above nodes placed k)) (λ k n. refl) nodes placed are.size are.at i
+    still (λ (n : Node). listed_of n.directory) (λ k. placed_node (rank_above nodes placed k) (is_torn_above nodes placed k)) (λ k n. refl)
+    nodes placed are.size are.at i
 
 pub parent_placed : (nodes placed : List Node) → LieAsClaimed nodes placed → (i : ℕ)
     → option_map (λ (n : Node). n.directory.parent) (slice_get placed i) ≡ option_map (λ (n : Node). n.directory.parent) (slice_get nodes i)
 parent_placed nodes placed are i =
-    still (λ (n : Node). n.directory.parent) (λ k. placed_node (rank_above nodes placed k) (is_torn_above nodes placed k)) (λ k n. refl) nodes placed are.size are.at i
+    still (λ (n : Node). n.directory.parent) (λ k. placed_node (rank_above nodes placed k) (is_torn_above nodes placed k)) (λ k n. refl)
+    nodes placed are.size are.at i
 
 -- what is made of each node
 pub owner_from_map : (ds : List Directory) (ns : List Node) (f : PathPin → WhosePin) → map whose_pin ds ≡ map (λ (n : Node). f (path_pin n)) ns → (i : ℕ)

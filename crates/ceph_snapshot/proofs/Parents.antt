@@ -1,5 +1,6 @@
 -- Each directory lies below its parent, as more directories are named and more is known of them.
-use Rattle.std.proofs.Common.{◌≡◌, ◌≢◌, ◌∙◌, ◌<◌, ◌≤◌, ◌+◌, ◌++◌, ◌∷◌, ◌==◌, [], ℕ, zero, suc, List, Option, Some, None, length, length-append, slice_get, refl, ap, sym, take, get_or, arith, ⊎_elim}
+use Rattle.std.proofs.Common.{◌≡◌, ◌≢◌, ◌∙◌, ◌<◌, ◌≤◌, ◌+◌, ◌++◌, ◌∷◌, ◌==◌, [], ℕ, zero, suc, List}
+use Rattle.std.proofs.Common.{Option, Some, None, length, length-append, slice_get, refl, ap, sym, take, get_or, arith, ⊎_elim}
 use Rattle.std.specs.Option.{option_map, option_map_or}
 use Rattle.std.proofs.lemmas.Bool.{cases_lt, ne_eqb}
 use Rattle.std.proofs.lemmas.List.{append_assoc, take_more}
@@ -42,7 +43,8 @@ path_below a b p q above path was = record {
   single = was.single;
 }
 
-pub below_same : (old new : List Node) → length new ≡ length old → ((i : ℕ) → node_path_at new i ≡ node_path_at old i) → ((i : ℕ) → above_at new i ≡ above_at old i)
+pub below_same : (old new : List Node) → length new ≡ length old → ((i : ℕ) → node_path_at new i ≡ node_path_at old i)
+    → ((i : ℕ) → above_at new i ≡ above_at old i)
     → AreBelowParents old → AreBelowParents new
 below_same old new size paths parents was = record {
   some = omega (arith, size, was.some);
@@ -50,7 +52,8 @@ below_same old new size paths parents was = record {
   root = parents 0 ∙ was.root;
   first = λ i below l. omega (arith, parents i, was.first i below (omega (arith, l, size)));
   below = λ i below l.
-      path_below (node_path_at old (above_at old i)) (node_path_at new (above_at new i)) (node_path_at old i) (node_path_at new i) (paths (above_at new i) ∙ ap (node_path_at old) (parents i)) (paths i)
+      path_below (node_path_at old (above_at old i)) (node_path_at new (above_at new i)) (node_path_at old i) (node_path_at new i)
+      (paths (above_at new i) ∙ ap (node_path_at old) (parents i)) (paths i)
       (was.below i below (omega (arith, l, size)));
 }
 
@@ -65,7 +68,8 @@ below_root n path parent = record {
 }
 
 -- one more directory
-pub below_more : (nodes : List Node) (n : Node) → IsParentOf nodes n.directory.path.items n.directory.parent → AreBelowParents nodes → AreBelowParents (nodes ++ n ∷ [])
+pub below_more : (nodes : List Node) (n : Node) → IsParentOf nodes n.directory.path.items n.directory.parent → AreBelowParents nodes
+    → AreBelowParents (nodes ++ n ∷ [])
 below_more nodes n in_it was = record {
   some = omega (arith, long);
   path = path 0 was.some ∙ was.path;
@@ -80,11 +84,13 @@ below_more nodes n in_it was = record {
       (λ (before : i < length nodes).
       let up : above_at (nodes ++ n ∷ []) i ≡ above_at nodes i = parent i before in
       let low : above_at nodes i < length nodes = omega (arith, was.first i below before, before) in
-      path_below (node_path_at nodes (above_at nodes i)) (node_path_at (nodes ++ n ∷ []) (above_at (nodes ++ n ∷ []) i)) (node_path_at nodes i) (node_path_at (nodes ++ n ∷ []) i)
+      path_below (node_path_at nodes (above_at nodes i)) (node_path_at (nodes ++ n ∷ []) (above_at (nodes ++ n ∷ []) i))
+      (node_path_at nodes i) (node_path_at (nodes ++ n ∷ []) i)
       (ap (node_path_at (nodes ++ n ∷ [])) up ∙ path (above_at nodes i) low) (path i before) (was.below i below before))
       (λ (from : length nodes ≤ i).
       let up : above_at (nodes ++ n ∷ []) i ≡ n.directory.parent = last_parent i (end i from l) in
-      path_below (node_path_at nodes n.directory.parent) (node_path_at (nodes ++ n ∷ []) (above_at (nodes ++ n ∷ []) i)) n.directory.path.items (node_path_at (nodes ++ n ∷ []) i)
+      path_below (node_path_at nodes n.directory.parent) (node_path_at (nodes ++ n ∷ []) (above_at (nodes ++ n ∷ []) i))
+      n.directory.path.items (node_path_at (nodes ++ n ∷ []) i)
       (ap (node_path_at (nodes ++ n ∷ [])) up ∙ path n.directory.parent in_it.inside) (last_path i (end i from l)) in_it.below)
       (cases_lt i (length nodes));
 } where
@@ -101,13 +107,15 @@ below_more nodes n in_it was = record {
   parent i l = ap (λ (o : Option Node). option_map_or (λ (m : Node). m.directory.parent) o 0) (get_more nodes n i l)
 
   last_path : (i : ℕ) → i ≡ length nodes → node_path_at (nodes ++ n ∷ []) i ≡ n.directory.path.items
-  last_path i is = ap (node_path_at (nodes ++ n ∷ [])) is ∙ ap (λ (o : Option Node). option_map_or (λ (m : Node). m.directory.path.items) o []) (get_end nodes n)
+  last_path i is = ap (node_path_at (nodes ++ n ∷ [])) is
+      ∙ ap (λ (o : Option Node). option_map_or (λ (m : Node). m.directory.path.items) o []) (get_end nodes n)
 
   last_parent : (i : ℕ) → i ≡ length nodes → above_at (nodes ++ n ∷ []) i ≡ n.directory.parent
   last_parent i is = ap (above_at (nodes ++ n ∷ [])) is ∙ ap (λ (o : Option Node). option_map_or (λ (m : Node). m.directory.parent) o 0) (get_end nodes n)
 
 -- the directory with the path up to a slash is the parent of what is named after it
-pub parent_at_slash : (nodes : List Node) (path : List ℕ) (end i : ℕ) → end < length path → get_or path end 0 ≡ 47 → IsNumberOf nodes (take end path) i → IsParentOf nodes (take (end + 1) path) i
+pub parent_at_slash : (nodes : List Node) (path : List ℕ) (end i : ℕ) → end < length path → get_or path end 0 ≡ 47
+    → IsNumberOf nodes (take end path) i → IsParentOf nodes (take (end + 1) path) i
 parent_at_slash nodes path end i l is of = record {
   inside = of.inside;
   below = record {
@@ -118,13 +126,15 @@ parent_at_slash nodes path end i l is of = record {
 }
 
 -- and stays so while a name goes on
-pub parent_longer : (nodes : List Node) (path : List ℕ) (end i : ℕ) → end < length path → get_or path end 0 ≢ 47 → IsParentOf nodes (take end path) i → IsParentOf nodes (take (end + 1) path) i
+pub parent_longer : (nodes : List Node) (path : List ℕ) (end i : ℕ) → end < length path → get_or path end 0 ≢ 47
+    → IsParentOf nodes (take end path) i → IsParentOf nodes (take (end + 1) path) i
 parent_longer nodes path end i l other was = record {
   inside = was.inside;
   below = record {
     name = was.below.name ++ get_or path end 0 ∷ [];
     whole = take_more path end 0 l
-        ∙ (ap (λ (p : List ℕ). p ++ get_or path end 0 ∷ []) was.below.whole ∙ append_assoc (node_path_at nodes i) (47 ∷ was.below.name) (get_or path end 0 ∷ []));
+        ∙ (ap (λ (p : List ℕ). p ++ get_or path end 0 ∷ []) was.below.whole
+        ∙ append_assoc (node_path_at nodes i) (47 ∷ was.below.name) (get_or path end 0 ∷ []));
     single = list_any-append (λ c. c == 47) was.below.name (get_or path end 0 ∷ []) ∙ rw (was.below.single, ne_eqb (get_or path end 0) 47 other) refl;
   };
 }
@@ -138,7 +148,8 @@ path_of own ranks None (Some at) is = absurd (none-some (with_owner own ranks at
 path_of own ranks (Some d) None is = absurd (none-some (whose_pin d) (sym is))
 path_of own ranks (Some d) (Some at) is = ap (λ (o : Option WhosePin). option_map_or (λ (w : WhosePin). w.0) o []) is
 
-path_pin_of : (n : Option Node) → option_map_or (λ (p : PathPin). p.0) (option_map path_pin n) [] ≡ option_map_or (λ (one : Node). one.directory.path.items) n []
+path_pin_of : (n : Option Node) → option_map_or (λ (p : PathPin). p.0) (option_map path_pin n) []
+    ≡ option_map_or (λ (one : Node). one.directory.path.items) n []
 path_pin_of None = refl
 path_pin_of (Some n) = refl
 
@@ -154,14 +165,17 @@ parent_of (Some d) (Some p) (Some n) is same =
     ap (λ (o : Option Position). option_map_or (λ (t : Position). t.1.1) o 0) is ∙ ap (λ (o : Option ℕ). option_map_or (λ (k : ℕ). k) o 0) same
 
 -- each lies below its parent as its node does
-pub snapshot_of : (nodes placed : List Node) (snapshot : Snapshot) (own : List OwnPin) (ranks : ℕ) → AreBelowParents nodes → LieAsClaimed nodes placed → LieAt placed snapshot.directories.items
-    → ((i : ℕ) → whose_pin_at snapshot.directories.items i ≡ option_map (with_owner own ranks) (path_pin_at nodes i)) → (AreParentsFirst snapshot.directories.items → KeepUnpinnable snapshot.directories.items)
+pub snapshot_of : (nodes placed : List Node) (snapshot : Snapshot) (own : List OwnPin) (ranks : ℕ) → AreBelowParents nodes
+    → LieAsClaimed nodes placed → LieAt placed snapshot.directories.items
+    → ((i : ℕ) → whose_pin_at snapshot.directories.items i ≡ option_map (with_owner own ranks) (path_pin_at nodes i))
+    → (AreParentsFirst snapshot.directories.items → KeepUnpinnable snapshot.directories.items)
     → length snapshot.spread.items ≡ 64 → IsSnapshot snapshot
 snapshot_of nodes placed snapshot own ranks are claimed lie owner keeps spread = record {
   root = paths 0 ∙ are.path;
   first = first;
   below = λ i some l.
-      path_below (node_path_at nodes (above_at nodes i)) (dir_path_at ds (parent_at ds i)) (node_path_at nodes i) (dir_path_at ds i) (paths (parent_at ds i) ∙ ap (node_path_at nodes) (parents i)) (paths i)
+      path_below (node_path_at nodes (above_at nodes i)) (dir_path_at ds (parent_at ds i)) (node_path_at nodes i) (dir_path_at ds i)
+      (paths (parent_at ds i) ∙ ap (node_path_at nodes) (parents i)) (paths i)
       (are.below i some (inside i l));
   kept = keeps first;
   spread = spread;
@@ -178,7 +192,12 @@ snapshot_of nodes placed snapshot own ranks are claimed lie owner keeps spread =
   inside : (i : ℕ) → i < length ds → i < length nodes
   inside i l =
       ⊎_elim
-      (λ some. omega (arith, claimed.size, inside_of (λ (n : Node). position_of n.directory) placed i (position_of some.0) (sym (lie i) ∙ ap (option_map position_of) some.2)))
+      (λ some. omega (
+        arith,
+        claimed.size,
+        inside_of (λ (n : Node). position_of n.directory) placed i (position_of some.0)
+            (sym (lie i) ∙ ap (option_map position_of) some.2),
+      ))
       (λ none. absurd (omega (arith, l, none.0)))
       (slice_get_cases ds i).1
 

@@ -1,5 +1,6 @@
 -- From the directories that were placed so far to one more.
-use Rattle.std.proofs.Common.{◌≡◌, ◌≢◌, ◌∙◌, ◌<◌, ◌≤◌, ◌+◌, ◌==◌, ℕ, Bool, false, List, Option, Some, length, length-set, slice_get, set, refl, ap, sym, subst, arith, ⊎_elim, cond}
+use Rattle.std.proofs.Common.{◌≡◌, ◌≢◌, ◌∙◌, ◌<◌, ◌≤◌, ◌+◌, ◌==◌, ℕ, Bool, false, List, Option}
+use Rattle.std.proofs.Common.{Some, length, length-set, slice_get, set, refl, ap, sym, subst, arith, ⊎_elim, cond}
 use Rattle.std.specs.Option.{option_map, option_map_or}
 use Rattle.std.proofs.lemmas.Bool.{cases_eq, cases_lt, ne_eqb}
 use Rattle.std.proofs.lemmas.List.{get_or-set_other, get_or-set_same}
@@ -38,14 +39,18 @@ rank_same : (start cur : List Node) (at i : ℕ) (new : Node) → (i ≢ 0 → a
 rank_same start cur at i new apart =
     ⊎_elim
     (λ (is : i ≡ 0). subst (λ (k : ℕ). rank_above start (set cur at new) k ≡ rank_above start cur k) (sym is) refl)
-    (λ (some : i ≢ 0). rw (ne_eqb i 0 some) (ap (λ (o : Option Node). option_map_or (λ (n : Node). n.directory.now) o 0) (at-other cur at (above_at start i) new (apart some))))
+    (λ (some : i ≢ 0). rw (ne_eqb i 0 some)
+    (ap (λ (o : Option Node). option_map_or (λ (n : Node). n.directory.now) o 0) (at-other cur at (above_at start i) new (apart some))))
     (cases_eq i 0)
 
-torn_same : (start cur : List Node) (at i : ℕ) (new : Node) → (i ≢ 0 → above_at start i ≢ at) → is_torn_above start (set cur at new) i ≡ is_torn_above start cur i
+torn_same : (start cur : List Node) (at i : ℕ) (new : Node) → (i ≢ 0 → above_at start i ≢ at)
+    → is_torn_above start (set cur at new) i ≡ is_torn_above start cur i
 torn_same start cur at i new apart =
     ⊎_elim
     (λ (is : i ≡ 0). subst (λ (k : ℕ). is_torn_above start (set cur at new) k ≡ is_torn_above start cur k) (sym is) refl)
-    (λ (some : i ≢ 0). rw (ne_eqb i 0 some) (ap (λ (o : Option Node). option_map_or (λ (n : Node). n.directory.is_spread) o false) (at-other cur at (above_at start i) new (apart some))))
+    (λ (some : i ≢ 0). rw (ne_eqb i 0 some)
+    (ap (λ (o : Option Node). option_map_or (λ (n : Node). n.directory.is_spread) o false)
+    (at-other cur at (above_at start i) new (apart some))))
     (cases_eq i 0)
 
 pub placed_more : (start cur : List Node) (at parent : ℕ) (d new : Node) (now : ℕ) (torn : Bool) → length cur ≡ length start → at < length start
@@ -58,17 +63,22 @@ pub placed_more : (start cur : List Node) (at parent : ℕ) (d new : Node) (now 
 placed_more start cur at parent d new now torn size inside before placed read parent_is low now_is torn_is is i l =
     ⊎_elim
     (λ (same : i ≡ at).
-    let far : at ≢ 0 → above_at start at ≢ at = λ some hit. let below : parent < at = low (omega (arith, some)) in absurd (omega (arith, below, parent_is, hit)) in
-    let rank : now ≡ rank_above start (set cur at new) at = now_is ∙ (ap (λ (p : ℕ). cond (at == 0) 0 (lies_at cur p)) parent_is ∙ sym (rank_same start cur at at new far)) in
-    let spread : torn ≡ is_torn_above start (set cur at new) at = torn_is ∙ (ap (λ (p : ℕ). cond (at == 0) false (is_torn_at cur p)) parent_is ∙ sym (torn_same start cur at at new far)) in
+    let far : at ≢ 0 → above_at start at ≢ at = λ some hit. let below : parent < at = low (omega (arith, some)) in
+    absurd (omega (arith, below, parent_is, hit)) in
+    let rank : now ≡ rank_above start (set cur at new) at = now_is
+    ∙ (ap (λ (p : ℕ). cond (at == 0) 0 (lies_at cur p)) parent_is ∙ sym (rank_same start cur at at new far)) in
+    let spread : torn ≡ is_torn_above start (set cur at new) at = torn_is
+    ∙ (ap (λ (p : ℕ). cond (at == 0) false (is_torn_at cur p)) parent_is ∙ sym (torn_same start cur at at new far)) in
     let made : new ≡ placed_node (rank_above start (set cur at new) at) (is_torn_above start (set cur at new) at) d =
     is ∙ (ap (λ (r : ℕ). placed_node r torn d) rank ∙ ap (λ (t : Bool). placed_node (rank_above start (set cur at new) at) t d) spread) in
-    subst (λ (k : ℕ). slice_get (set cur at new) k ≡ option_map (placed_node (rank_above start (set cur at new) k) (is_torn_above start (set cur at new) k)) (slice_get start k)) (sym same)
+    subst (λ (k : ℕ). slice_get (set cur at new) k ≡ option_map
+    (placed_node (rank_above start (set cur at new) k) (is_torn_above start (set cur at new) k)) (slice_get start k)) (sym same)
     (at-same cur at new (omega (arith, inside, size)) ∙ (ap (λ (n : Node). Some n) made
     ∙ sym (ap (option_map (placed_node (rank_above start (set cur at new) at) (is_torn_above start (set cur at new) at))) read))))
     (λ (other : i ≢ at).
     let under : i < at = omega (arith, other, l) in
-    let far : i ≢ 0 → above_at start i ≢ at = λ some hit. let below : above_at start i < i = before i (omega (arith, some)) under in absurd (omega (arith, below, under, hit)) in
+    let far : i ≢ 0 → above_at start i ≢ at = λ some hit. let below : above_at start i < i = before i (omega (arith, some)) under in
+    absurd (omega (arith, below, under, hit)) in
     at-other cur at i new other ∙ (placed i under
     ∙ (ap (λ (r : ℕ). option_map (placed_node r (is_torn_above start cur i)) (slice_get start i)) (sym (rank_same start cur at i new far))
     ∙ ap (λ (t : Bool). option_map (placed_node (rank_above start (set cur at new) i) t) (slice_get start i)) (sym (torn_same start cur at i new far)))))

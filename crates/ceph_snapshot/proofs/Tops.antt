@@ -17,7 +17,8 @@ twice true true (Some x) = ap (λ (p : Option EphemeralPin). Some (x.0, p)) (kno
   known (Some p) = refl
 
 pub tops_more : (first before now : ℕ → Option Listed) (tops : List ℕ) (at : ℕ) → at < length tops
-    → ((i : ℕ) → before i ≡ option_map (with_unknown (list_any (λ top. top == i) (take at tops))) (first i)) → ((i : ℕ) → now i ≡ option_map (with_unknown (get_or tops at 0 == i)) (before i))
+    → ((i : ℕ) → before i ≡ option_map (with_unknown (list_any (λ top. top == i) (take at tops))) (first i))
+    → ((i : ℕ) → now i ≡ option_map (with_unknown (get_or tops at 0 == i)) (before i))
     → (i : ℕ) → now i ≡ option_map (with_unknown (list_any (λ top. top == i) (take (at + 1) tops))) (first i)
 tops_more first before now tops at l so_far more i =
     more i

@@ -1,5 +1,6 @@
 -- The answers for one more certificate, and the totals of one more row.
-use Rattle.std.proofs.Common.{◌≡◌, ◌∙◌, ◌↔◌, ℕ, suc, ◌+◌, ◌<◌, ◌≤◌, ◌^◌, List, [], ◌∷◌, ◌++◌, All, IsTrue, length, refl, sym, ap, subst, arith, append_assoc, append-nil, string_bytes, Some, Bool, true, false, ◌&&◌}
+use Rattle.std.proofs.Common.{◌≡◌, ◌∙◌, ◌↔◌, ℕ, suc, ◌+◌, ◌<◌, ◌≤◌, ◌^◌, List, [], ◌∷◌, ◌++◌, All, IsTrue}
+use Rattle.std.proofs.Common.{length, refl, sym, ap, subst, arith, append_assoc, append-nil, string_bytes, Some, Bool, true, false, ◌&&◌}
 use Rattle.std.proofs.lemmas.List.Elements.{All-append, All-cons, All-nil, All-pop}
 use Rattle.std.proofs.lemmas.Bool.{false≢true}
 use Rattle.plan_text.specs.declared.certificate.Certificate.{Certificate}
@@ -26,14 +27,18 @@ both_true true b h = (refl, h)
 both_true false b h = absurd (false≢true h)
 
 -- one more answer
-pub answers_more : (cs : List Certificate) (c : Certificate) (number : ℕ) (a b : Answers) (line : List ℕ) (holds : Bool) → number ≡ 1 + length cs → AreAnswersFor cs a
+pub answers_more : (cs : List Certificate) (c : Certificate) (number : ℕ) (a b : Answers) (line : List ℕ) (holds : Bool)
+    → number ≡ 1 + length cs → AreAnswersFor cs a
     → IsVerdict number c line → (IsTrue holds ↔ ProofsHold c) → (IsTrue holds → HasBest c)
     → string_bytes b.lines ≡ string_bytes a.lines ++ line → b.hold ≡ (a.hold && holds) → AreAnswersFor (cs ++ c ∷ []) b
 answers_more cs c number a b line holds at are is exact best lines hold = record {
   lines = subst (AreVerdicts 1 (cs ++ c ∷ [])) (sym lines) (pushed 1 cs c (string_bytes a.lines) line are.lines (subst (λ (n : ℕ). IsVerdict n c line) at is));
   exact = (
-    (λ yes. let both = both_true a.hold holds (sym hold ∙ yes) in All-append ProofsHold cs (c ∷ []) (are.exact.0 both.0) (All-cons ProofsHold c [] (exact.0 both.1) (All-nil ProofsHold))),
-    (λ all. let parts = All-pop ProofsHold (cs ++ c ∷ []) cs (Some c) refl all in hold ∙ (ap (λ (x : Bool). x && holds) (are.exact.1 parts.0) ∙ exact.1 parts.1)),
+    (λ yes. let both = both_true a.hold holds (sym hold ∙ yes) in
+        All-append ProofsHold cs (c ∷ []) (are.exact.0 both.0) (All-cons ProofsHold c [] (exact.0 both.1) (All-nil ProofsHold))),
+    (λ all. let parts = All-pop ProofsHold (cs ++ c ∷ []) cs (Some c) refl all in
+        hold ∙ (ap (λ (x : Bool). x && holds) (are.exact.1 parts.0) ∙ exact.1 parts.1)),
   );
-  best = λ yes. let both = both_true a.hold holds (sym hold ∙ yes) in All-append HasBest cs (c ∷ []) (are.best both.0) (All-cons HasBest c [] (best both.1) (All-nil HasBest));
+  best = λ yes. let both = both_true a.hold holds (sym hold ∙ yes) in
+      All-append HasBest cs (c ∷ []) (are.best both.0) (All-cons HasBest c [] (best both.1) (All-nil HasBest));
 }

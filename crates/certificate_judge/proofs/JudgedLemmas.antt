@@ -28,7 +28,8 @@ some_more : (known : Option (List ℕ)) (P Q : List ℕ → Type 0) → IfSome k
 some_more None P Q h f = tt
 some_more (Some bytes) P Q h f = f bytes h
 
-module _ {W E : Type 0} (printed : W → Option (List ℕ)) (said : E → Option (List ℕ)) (known : Option (List ℕ)) (old new : W) (before after : E) (status : ℕ) where
+module _ {W E : Type 0} (printed : W → Option (List ℕ)) (said : E → Option (List ℕ)) (known : Option (List ℕ)) (old new : W)
+    (before after : E) (status : ℕ) where
   -- what is printed for answers
   printed_is : (a : Answers) (bytes : List ℕ) → HaveAnswers bytes a → (status ≡ 0 → IsTrue a.hold) → (status ≡ 1 → ¬ (IsTrue a.hold))
       → (status ≤ 1 → Appends (printed old) (printed new) (string_bytes a.lines)) → GrowsByFront (printed old) (printed new) (string_bytes a.lines)
@@ -65,7 +66,8 @@ module _ {W E : Type 0} (printed : W → Option (List ℕ)) (said : E → Option
   pub judged_is : (r : Result Answers JudgeError)
       → IfOk r (λ a. IfSome known (λ bytes. HaveAnswers bytes a)) → IfErr r (λ error. IfSome known (λ bytes. Refuses bytes error))
       → IfOk r (λ a. status ≡ 0 → IsTrue a.hold) → IfOk r (λ a. status ≡ 1 → ¬ (IsTrue a.hold))
-      → IfOk r (λ a. status ≤ 1 → Appends (printed old) (printed new) (string_bytes a.lines)) → IfOk r (λ a. GrowsByFront (printed old) (printed new) (string_bytes a.lines))
+      → IfOk r (λ a. status ≤ 1 → Appends (printed old) (printed new) (string_bytes a.lines))
+      → IfOk r (λ a. GrowsByFront (printed old) (printed new) (string_bytes a.lines))
       → OnOk r ((status ≤ 1) ⊎ (status ≡ 3)) → IfErr r (λ error. (status ≡ error_status error) × (new ≡ old))
       → IfErr r (λ error. error ≡ Text Memory → GrowsByFront (said before) (said after) memory_line)
       → IsReport

@@ -1,5 +1,6 @@
 -- What is known of a file when some of its certificates are judged.
-use Rattle.std.proofs.Common.{◌≡◌, ◌≢◌, ◌∙◌, ◌↔◌, ℕ, ◌+◌, ◌<◌, ◌≤◌, List, [], ◌∷◌, ◌++◌, All, IsTrue, length, refl, sym, ap, subst, arith, append_assoc, append-nil, length-append, Option, Some, None, IfSome, string_bytes}
+use Rattle.std.proofs.Common.{◌≡◌, ◌≢◌, ◌∙◌, ◌↔◌, ℕ, ◌+◌, ◌<◌, ◌≤◌, List, [], ◌∷◌, ◌++◌, All, IsTrue}
+use Rattle.std.proofs.Common.{length, refl, sym, ap, subst, arith, append_assoc, append-nil, length-append, Option, Some, None, IfSome, string_bytes}
 use Rattle.std.specs.Io.KnownBytes.{Consumes, IsAtEnd, prepend_known}
 use Rattle.std.proofs.KnownBytes.{Consumes-trans}
 use Rattle.std.proofs.lemmas.List.{append_cancel_left}
@@ -20,7 +21,8 @@ abbrev own : Certificate → List ℕ
 own c = text c.problem c.names c.plan
 
 abbrev pub PrefixFree : Type 0
-PrefixFree = (c d : Certificate) (r s : List ℕ) → IsWritable c → IsWritable d → text c.problem c.names c.plan ++ r ≡ text d.problem d.names d.plan ++ s → (c ≡ d) × (r ≡ s)
+PrefixFree = (c d : Certificate) (r s : List ℕ) → IsWritable c → IsWritable d
+    → text c.problem c.names c.plan ++ r ≡ text d.problem d.names d.plan ++ s → (c ≡ d) × (r ≡ s)
 
 -- these certificates were judged, and these bytes are left
 pub record IsUpTo (known left : Option (List ℕ)) (count : ℕ) (made : Answers) (done : List Certificate) : Type 0 where
@@ -71,7 +73,8 @@ no_elements (c ∷ cs) h = absurd (omega (arith, h))
 
 module _ (free : PrefixFree) (number : ℕ) (answers : Answers) (done : List Certificate) where
   -- all are judged
-  pub all_judged : (known left : Option (List ℕ)) → IsUpTo known left number answers done → IsAtEnd left → 1 < number → IfSome known (λ bytes. HaveAnswers bytes answers)
+  pub all_judged : (known left : Option (List ℕ)) → IsUpTo known left number answers done → IsAtEnd left → 1 < number
+      → IfSome known (λ bytes. HaveAnswers bytes answers)
   all_judged None left at end some = tt
   all_judged (Some bytes) None at end some = absurd at.read
   all_judged (Some bytes) (Some rest) at end some =
@@ -88,7 +91,8 @@ module _ (free : PrefixFree) (number : ℕ) (answers : Answers) (done : List Cer
       }
 
   -- there is none
-  pub none_judged : (known left : Option (List ℕ)) → IsUpTo known left number answers done → IsAtEnd left → number ≤ 1 → IfSome known (λ bytes. ¬ (AreCertificates bytes))
+  pub none_judged : (known left : Option (List ℕ)) → IsUpTo known left number answers done → IsAtEnd left → number ≤ 1
+      → IfSome known (λ bytes. ¬ (AreCertificates bytes))
   none_judged None left at end few = tt
   none_judged (Some bytes) None at end few = absurd at.read
   none_judged (Some bytes) (Some rest) at end few = λ are.
@@ -97,7 +101,8 @@ module _ (free : PrefixFree) (number : ℕ) (answers : Answers) (done : List Cer
       omega (arith, are.1.some, ap length (none_for_nil are.0 (sym are.1.same ∙ same)))
 
   -- what is left begins with none
-  pub faulty : (known left : Option (List ℕ)) → IsUpTo known left number answers done → IfSome left (λ rest. (rest ≢ []) × BeginsNone rest) → IfSome known (λ bytes. ¬ (AreCertificates bytes))
+  pub faulty : (known left : Option (List ℕ)) → IsUpTo known left number answers done → IfSome left (λ rest. (rest ≢ []) × BeginsNone rest)
+      → IfSome known (λ bytes. ¬ (AreCertificates bytes))
   faulty None left at fault = tt
   faulty (Some bytes) None at fault = absurd at.read
   faulty (Some bytes) (Some rest) at fault = λ are.
@@ -105,7 +110,8 @@ module _ (free : PrefixFree) (number : ℕ) (answers : Answers) (done : List Cer
       no_more rest first.0 fault.0 fault.1 first.2 first.3
 
 -- one more is judged
-pub one_more : (known left after : Option (List ℕ)) (number : ℕ) (a b : Answers) (done : List Certificate) (c : Certificate) → IsUpTo known left number a done → IsWritable c
+pub one_more : (known left after : Option (List ℕ)) (number : ℕ) (a b : Answers) (done : List Certificate) (c : Certificate)
+    → IsUpTo known left number a done → IsWritable c
     → Consumes left after (text c.problem c.names c.plan) → AreAnswersFor (done ++ c ∷ []) b → IsUpTo known after (number + 1) b (done ++ c ∷ [])
 one_more known left after number a b done c at w read are = record {
   writable = All-append IsWritable done (c ∷ []) at.writable (All-cons IsWritable c [] w (All-nil IsWritable));
@@ -115,7 +121,8 @@ one_more known left after number a b done c at w read are = record {
 }
 
 -- an error is one of the whole file
-pub refuses : PrefixFree → (known left : Option (List ℕ)) (number : ℕ) (made : Answers) (done : List Certificate) (error : JudgeError) → IsUpTo known left number made done → IsFault left error
+pub refuses : PrefixFree → (known left : Option (List ℕ)) (number : ℕ) (made : Answers) (done : List Certificate) (error : JudgeError)
+    → IsUpTo known left number made done → IsFault left error
     → IfSome known (λ bytes. Refuses bytes error)
 refuses free None left number made done error at fault = tt
 refuses free (Some bytes) left number made done (Read error) at fault = tt
@@ -127,5 +134,6 @@ all_left None bytes none = tt
 all_left (Some all) bytes none = ap (λ (t : List ℕ). t ++ all) (sym none)
 
 -- nothing is judged yet
-pub begins : (known : Option (List ℕ)) (bytes : List ℕ) (made : Answers) → bytes ≡ [] → AreAnswersFor [] made → IsUpTo known (prepend_known bytes known) 1 made []
+pub begins : (known : Option (List ℕ)) (bytes : List ℕ) (made : Answers) → bytes ≡ [] → AreAnswersFor [] made
+    → IsUpTo known (prepend_known bytes known) 1 made []
 begins known bytes made none are = record { writable = All-nil IsWritable; read = all_left known bytes none; answers = are; number = refl }

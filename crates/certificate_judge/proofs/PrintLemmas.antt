@@ -21,11 +21,13 @@ kept (Some xa) None c xs h k = absurd h
 abbrev pub IsLeft : Option (List ℕ) → Option (List ℕ) → List ℕ → List ℕ → Type 0
 IsLeft old new line rest = (front : List ℕ) × (front ++ rest ≡ line) × Appends old new front
 
-pub one_piece : (a b c : Option (List ℕ)) (line rest more : List ℕ) (n : ℕ) → IsLeft a b line rest → Appends b c (take n rest) → more ≡ take (length rest - n) (drop n rest) → IsLeft a c line more
+pub one_piece : (a b c : Option (List ℕ)) (line rest more : List ℕ) (n : ℕ) → IsLeft a b line rest → Appends b c (take n rest)
+    → more ≡ take (length rest - n) (drop n rest) → IsLeft a c line more
 one_piece a b c line rest more n is grown left =
     let tail : more ≡ drop n rest = left ∙ take_rest rest n in (
       is.0 ++ take n rest,
-      append_assoc is.0 (take n rest) more ∙ (ap (λ (t : List ℕ). is.0 ++ (take n rest ++ t)) tail ∙ (ap (λ (t : List ℕ). is.0 ++ t) (take-append-drop n rest) ∙ is.1)),
+      append_assoc is.0 (take n rest) more
+          ∙ (ap (λ (t : List ℕ). is.0 ++ (take n rest ++ t)) tail ∙ (ap (λ (t : List ℕ). is.0 ++ t) (take-append-drop n rest) ∙ is.1)),
       appends_more a b c is.0 (take n rest) is.2 grown,
     )
 

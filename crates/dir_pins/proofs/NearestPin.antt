@@ -1,5 +1,6 @@
 -- The pin that holds a directory, from that of its parent.
-use Rattle.std.proofs.Common.{◌≡◌, ℕ, zero, suc, ◌<◌, ◌+◌, List, [], ◌∷◌, ◌++◌, length, map, sym, ap, ◌∙◌, refl, arith, length-append, Bool, true, false, Option, Some, None, get_or, set, cond, add-one, inl, inr}
+use Rattle.std.proofs.Common.{◌≡◌, ℕ, zero, suc, ◌<◌, ◌+◌, List, [], ◌∷◌, ◌++◌, length, map, sym, ap, ◌∙◌}
+use Rattle.std.proofs.Common.{refl, arith, length-append, Bool, true, false, Option, Some, None, get_or, set, cond, add-one, inl, inr}
 use Rattle.std.specs.Option.{option_map, option_map_or}
 use Rattle.std.specs.Prelude.{is_some, is_none, filter}
 use Rattle.std.proofs.lemmas.Bool.{and_right, cases_eq}
@@ -18,17 +19,20 @@ nearer-none (Some rank) = refl
 pub at_root : (es : List (Option Entry)) (own : List (Option ℕ)) → nearest_pin es own 0 ≡ own_pin own 0
 at_root es own = nearer-none (own_pin own 0)
 
-pub below_root : (es : List (Option Entry)) (own : List (Option ℕ)) (d : ℕ) → IsTree es → 0 < d → nearest_pin es own d ≡ nearer (own_pin own d) (nearest_pin es own (parent_of es d))
+pub below_root : (es : List (Option Entry)) (own : List (Option ℕ)) (d : ℕ) → IsTree es → 0 < d
+    → nearest_pin es own d ≡ nearer (own_pin own d) (nearest_pin es own (parent_of es d))
 below_root es own zero tree some = absurd (omega arith)
 below_root es own (suc d) tree some = ap (λ (ds : List ℕ). nearer (own_pin own (suc d)) (first_pin own ds)) (up_parent es d tree)
 
 -- its own pin holds it
 pub own_holds : (es : List (Option Entry)) (own : List (Option ℕ)) (d rank : ℕ) → IsTree es → own_pin own d ≡ Some rank → nearest_pin es own d ≡ Some rank
 own_holds es own zero rank tree h = at_root es own ∙ h
-own_holds es own (suc d) rank tree h = below_root es own (suc d) tree (omega arith) ∙ ap (λ (pin : Option ℕ). nearer pin (nearest_pin es own (parent_of es (suc d)))) h
+own_holds es own (suc d) rank tree h = below_root es own (suc d) tree (omega arith)
+    ∙ ap (λ (pin : Option ℕ). nearer pin (nearest_pin es own (parent_of es (suc d)))) h
 
 -- without one its parent's does
-pub parent_holds : (es : List (Option Entry)) (own : List (Option ℕ)) (d : ℕ) → IsTree es → 0 < d → own_pin own d ≡ None → nearest_pin es own d ≡ nearest_pin es own (parent_of es d)
+pub parent_holds : (es : List (Option Entry)) (own : List (Option ℕ)) (d : ℕ) → IsTree es → 0 < d → own_pin own d ≡ None
+    → nearest_pin es own d ≡ nearest_pin es own (parent_of es d)
 parent_holds es own d tree some h = below_root es own d tree some ∙ ap (λ (pin : Option ℕ). nearer pin (nearest_pin es own (parent_of es d))) h
 
 -- what a row says of its directory
@@ -36,7 +40,9 @@ pub record IsRow (es : List (Option Entry)) (d : ℕ) (row : TreeRow) : Type 0 w
   pub there : is_there es d ≡ true
   pub parent : parent_of es d ≡ row.parent
 
-row_read : (e : Option Entry) (d : ℕ) (row : TreeRow) → Some row ≡ option_map (λ e. record { dir = d; parent = e.parent; inodes = e.inodes }) e → (is_some e ≡ true) × (option_map_or (λ e. e.parent) e 0 ≡ row.parent)
+row_read : (e : Option Entry) (d : ℕ) (row : TreeRow)
+    → Some row ≡ option_map (λ e. record { dir = d; parent = e.parent; inodes = e.inodes }) e
+    → (is_some e ≡ true) × (option_map_or (λ e. e.parent) e 0 ≡ row.parent)
 row_read None d row h = cc
 row_read (Some e) d row h = (refl, sym (ap (λ (r : TreeRow). r.parent) (only h)))
   where
@@ -47,7 +53,8 @@ pub is_row : (es : List (Option Entry)) (d : ℕ) (row : TreeRow) → Some row �
 is_row es d row h = let read = row_read (entry_at es d) d row h in record { there = read.0; parent = read.1 }
 
 -- without a pin of its own a directory is unpinned if its parent is
-pub unpinned_by_parent : (es : List (Option Entry)) (own : List (Option ℕ)) (d : ℕ) → IsTree es → 0 < d → is_there es d ≡ true → own_pin own d ≡ None → is_unpinned es own (parent_of es d) ≡ is_unpinned es own d
+pub unpinned_by_parent : (es : List (Option Entry)) (own : List (Option ℕ)) (d : ℕ) → IsTree es → 0 < d → is_there es d ≡ true
+    → own_pin own d ≡ None → is_unpinned es own (parent_of es d) ≡ is_unpinned es own d
 unpinned_by_parent es own d tree some there free =
     rw (tree.parents d there, there) (ap is_none (sym (parent_holds es own d tree some free)))
 
@@ -69,7 +76,8 @@ no_some (Some rank) h = cc
 pub below_more : (test : ℕ → Bool) (n : ℕ) → filter test (below (n + 1)) ≡ filter test (below n) ++ cond (test n) (n ∷ []) []
 below_more test n = rw add-one (filter-append test (below n) (n ∷ []))
 
-pub known_more : (known : List Bool) (test : ℕ → Bool) (n : ℕ) (v : Bool) → n < length known → v ≡ test n → ((d : ℕ) → d < n → get_or known d false ≡ test d) → (d : ℕ) → d < n + 1 → get_or (set known n v) d false ≡ test d
+pub known_more : (known : List Bool) (test : ℕ → Bool) (n : ℕ) (v : Bool) → n < length known → v ≡ test n
+    → ((d : ℕ) → d < n → get_or known d false ≡ test d) → (d : ℕ) → d < n + 1 → get_or (set known n v) d false ≡ test d
 known_more known test n v inside is before d h = elim (cases_eq d n) [
   | inl here ↦ rw here (get_or-set_same known n v false inside ∙ is)
   | inr other ↦ get_or-set_other known n d v false other ∙ before d (omega (arith, h, other))
@@ -99,6 +107,7 @@ read_below f n k v h is =
 pub gone_above : (es : List (Option Entry)) (d : ℕ) → ◌≡◌ {A = Option TreeRow} None (row_at es d) → parent_of es d ≡ 0
 gone_above es d h = on (entry_at es d) h
   where
-    on : (e : Option Entry) → ◌≡◌ {A = Option TreeRow} None (option_map (λ e. record { dir = d; parent = e.parent; inodes = e.inodes }) e) → option_map_or (λ e. e.parent) e 0 ≡ 0
+    on : (e : Option Entry) → ◌≡◌ {A = Option TreeRow} None (option_map (λ e. record { dir = d; parent = e.parent; inodes = e.inodes }) e)
+        → option_map_or (λ e. e.parent) e 0 ≡ 0
     on None h = refl
     on (Some e) h = absurd (cc)

@@ -1,8 +1,10 @@
 -- The unpinned directories, from one up to the root.
-use Rattle.std.proofs.Common.{◌≡◌, ℕ, zero, suc, ◌<◌, ◌≤◌, List, [], ◌∷◌, ◌++◌, length, sym, ap, ◌∙◌, refl, subst, arith, Bool, true, false, Option, Some, None, ◌⊎◌, inl, inr}
+use Rattle.std.proofs.Common.{◌≡◌, ℕ, zero, suc, ◌<◌, ◌≤◌, List, [], ◌∷◌, ◌++◌, length, sym, ap}
+use Rattle.std.proofs.Common.{◌∙◌, refl, subst, arith, Bool, true, false, Option, Some, None, ◌⊎◌, inl, inr}
 use Rattle.std.specs.Prelude.{Contains, is_none, filter}
 use Rattle.std.proofs.lemmas.Bool.{and_parts, and_right, cases_eq}
-use Rattle.std.proofs.lemmas.List.Elements.{All-contains, Contains-append_cases, Contains-append_left, Contains-push, Contains-push_cases, filter-append, filter_passes}
+use Rattle.std.proofs.lemmas.List.Elements.{All-contains, Contains-append_cases, Contains-append_left, Contains-push}
+use Rattle.std.proofs.lemmas.List.Elements.{Contains-push_cases, filter-append, filter_passes}
 use Rattle.dirtree.specs.Tree.{Entry, IsTree, is_there, parent_of, up}
 use Rattle.dirtree.proofs.Changes.{inside}
 use Rattle.dirtree.proofs.Walks.{above}
@@ -17,7 +19,8 @@ far_none : (own far : Option ℕ) → is_none (nearer own far) ≡ true → is_n
 far_none None far e = e
 far_none (Some rank) far e = cc
 
-pub unpinned_parent : (es : List (Option Entry)) (own : List (Option ℕ)) (d : ℕ) → IsTree es → 0 < d → is_unpinned es own d ≡ true → is_unpinned es own (parent_of es d) ≡ true
+pub unpinned_parent : (es : List (Option Entry)) (own : List (Option ℕ)) (d : ℕ) → IsTree es → 0 < d → is_unpinned es own d ≡ true
+    → is_unpinned es own (parent_of es d) ≡ true
 unpinned_parent es own d tree some is =
     let parts = and_parts (is_there es d) (is_none (nearest_pin es own d)) is in
     let far = far_none (own_pin own d) (nearest_pin es own (parent_of es d)) (ap is_none (sym (below_root es own d tree some)) ∙ parts.1) in
@@ -30,7 +33,8 @@ only x d has = elim (Contains-push_cases [] x d has) [
 ]
 
 -- each directory above an unpinned one is unpinned
-climb : (es : List (Option Entry)) (own : List (Option ℕ)) → IsTree es → (steps c d : ℕ) → Contains (up es steps c) d → is_unpinned es own c ≡ true → is_unpinned es own d ≡ true
+climb : (es : List (Option Entry)) (own : List (Option ℕ)) → IsTree es → (steps c d : ℕ) → Contains (up es steps c) d
+    → is_unpinned es own c ≡ true → is_unpinned es own d ≡ true
 climb es own tree zero c d has is = subst (λ (x : ℕ). is_unpinned es own x ≡ true) (only c d has) is
 climb es own tree (suc steps) zero d has is = subst (λ (x : ℕ). is_unpinned es own x ≡ true) (only 0 d has) is
 climb es own tree (suc steps) (suc c) d has is = elim (Contains-append_cases (suc c ∷ []) (up es steps (parent_of es (suc c))) d has) [
@@ -38,7 +42,8 @@ climb es own tree (suc steps) (suc c) d has is = elim (Contains-append_cases (su
   | inr higher ↦ climb es own tree steps (parent_of es (suc c)) d higher (unpinned_parent es own (suc c) tree (omega arith) is)
 ]
 
-pub pinned_below : (es : List (Option Entry)) (own : List (Option ℕ)) (d c rank : ℕ) → IsTree es → nearest_pin es own d ≡ Some rank → IsAbove es d c → is_unpinned es own c ≡ false
+pub pinned_below : (es : List (Option Entry)) (own : List (Option ℕ)) (d c rank : ℕ) → IsTree es → nearest_pin es own d ≡ Some rank
+    → IsAbove es d c → is_unpinned es own c ≡ false
 pinned_below es own d c rank tree held above = elim (is_unpinned es own c) as (λ b. is_unpinned es own c ≡ b → is_unpinned es own c ≡ false) [
   | true ↦ λ free.
       let not_free : is_unpinned es own d ≡ false = and_right (is_there es d) (is_none (nearest_pin es own d)) (ap is_none held) in
@@ -72,8 +77,11 @@ passes test (suc n) d is small =
     elim (cases_eq d n) [
       | inl here ↦
           let last : filter test (n ∷ []) ≡ n ∷ [] = kept n (subst (λ (x : ℕ). test x ≡ true) here is) in
-          subst (λ (x : ℕ). Contains (filter test (below (suc n))) x) (sym here) (subst (λ (t : List ℕ). Contains t n) (sym (split ∙ ap (λ (t : List ℕ). filter test (below n) ++ t) last)) (Contains-push (filter test (below n)) n))
-      | inr other ↦ subst (λ (t : List ℕ). Contains t d) (sym split) (Contains-append_left (filter test (below n)) (filter test (n ∷ [])) d (passes test n d is (omega (arith, small, other))))
+          subst (λ (x : ℕ). Contains (filter test (below (suc n))) x) (sym here)
+          (subst (λ (t : List ℕ). Contains t n) (sym (split ∙ ap (λ (t : List ℕ). filter test (below n) ++ t) last))
+          (Contains-push (filter test (below n)) n))
+      | inr other ↦ subst (λ (t : List ℕ). Contains t d) (sym split)
+          (Contains-append_left (filter test (below n)) (filter test (n ∷ [])) d (passes test n d is (omega (arith, small, other))))
     ]
   where
     kept : (n : ℕ) → test n ≡ true → filter test (n ∷ []) ≡ n ∷ []
@@ -98,5 +106,6 @@ unpinned_tree es own tree = record {
   parents = λ d some has.
       let is = All-contains (λ x. is_unpinned es own x ≡ true) (unpinned es own) d (filter_passes (is_unpinned es own) (below (length es))) has in
       let free = unpinned_parent es own d tree some is in
-      passes (is_unpinned es own) (length es) (parent_of es d) free (inside es (parent_of es d) (and_parts (is_there es (parent_of es d)) (is_none (nearest_pin es own (parent_of es d))) free).0);
+      passes (is_unpinned es own) (length es) (parent_of es d) free
+      (inside es (parent_of es d) (and_parts (is_there es (parent_of es d)) (is_none (nearest_pin es own (parent_of es d))) free).0);
 }

@@ -94,7 +94,8 @@ module _ (place after : ℕ → Option ℕ) (next next_ head head_ : ℕ → ℕ
       (below, old_ (next gone) k (λ e. absurd (omega (arith, below, e))) (behind.1 ∙ ap Some is))
 
   -- it was the first
-  pub chained_first : head chain ≡ gone → ((d : ℕ) → d ≢ gone → next_ d ≡ next d) → head_ chain ≡ next gone → ((c : ℕ) → c ≢ chain → head_ c ≡ head c) → IsChained after next_ head_
+  pub chained_first : head chain ≡ gone → ((d : ℕ) → d ≢ gone → next_ d ≡ next d) → head_ chain ≡ next gone
+      → ((c : ℕ) → c ≢ chain → head_ c ≡ head c) → IsChained after next_ head_
   chained_first first nexts front fronts = record {
     begins = λ c more. elim (cases_eq c chain) [
       | inl is ↦

@@ -42,7 +42,8 @@ child_by_key es d k tree some at = elim (child_of es k.parent k.name) as (λ o. 
       let here = keyed es d k at in
       ap Some (tree.unique c d other.0 some there.there here.there (there.parent_is ∙ sym here.parent_is) (there.name_is ∙ sym here.name_is))
   | None ↦ λ is.
-      let missed = subst (λ (e : Option Entry). is_named_child k.parent k.name e ≡ false) (after_first es d some) (missed_from 1 (drop 1 es) k.parent (d - 1) k.name is) in
+      let missed = subst (λ (e : Option Entry). is_named_child k.parent k.name e ≡ false) (after_first es d some)
+      (missed_from 1 (drop 1 es) k.parent (d - 1) k.name is) in
       absurd (false≢true (sym missed ∙ key_named (entry_at es d) k.parent k.name at))
 ] refl
 
@@ -50,8 +51,10 @@ child_by_key es d k tree some at = elim (child_of es k.parent k.name) as (λ o. 
 pub index : (es : List (Option Entry)) → IsTree es → IsIndexed es (child_of es)
 index es tree = record {
   rooted = tree.rooted;
-  above = λ d k some at. let here = keyed es d k at in
-      (subst (λ (p : ℕ). p < d) here.parent_is (tree.above d some here.there), subst (λ (name : List ℕ). is_name name ≡ true) here.name_is (tree.named d some here.there));
+  above = λ d k some at. let here = keyed es d k at in (
+    subst (λ (p : ℕ). p < d) here.parent_is (tree.above d some here.there),
+    subst (λ (name : List ℕ). is_name name ≡ true) here.name_is (tree.named d some here.there),
+  );
   held = λ p d name at. let here = keyed es d (key p name) (child_is es p d name at).1 in
       subst (λ (q : ℕ). is_there es q ≡ true) here.parent_is (tree.parents d here.there);
   finds = λ p d name at. child_is es p d name at;

@@ -1,5 +1,6 @@
 -- How many children a directory has, where a directory is made or removed.
-use Rattle.std.proofs.Common.{◌≡◌, ℕ, zero, suc, ◌<◌, ◌+◌, List, [], ◌∷◌, ◌++◌, length, sym, ap, ◌∙◌, refl, arith, subst, drop, set, Bool, true, false, cond, ◌||◌, Option, None, count_by}
+use Rattle.std.proofs.Common.{◌≡◌, ℕ, zero, suc, ◌<◌, ◌+◌, List, [], ◌∷◌, ◌++◌, length, sym, ap, ◌∙◌}
+use Rattle.std.proofs.Common.{refl, arith, subst, drop, set, Bool, true, false, cond, ◌||◌, Option, None, count_by}
 use Rattle.std.proofs.lemmas.Bool.{false≢true}
 use Rattle.std.proofs.lemmas.List.Sums.{sum_by-cons, sum_by_push, sum_by-set}
 use Rattle.std.specs.List.{list_any}
@@ -13,28 +14,32 @@ use Rattle.dirtree.proofs.TreeFacts.{child_any}
 abbrev pub one_if : Bool → ℕ
 one_if b = cond b 1 0
 
-pub children_more : (es : List (Option Entry)) (e : Option Entry) (d : ℕ) → 0 < length es → children_of (es ++ e ∷ []) d ≡ children_of es d + one_if (is_child d e)
+pub children_more : (es : List (Option Entry)) (e : Option Entry) (d : ℕ) → 0 < length es
+    → children_of (es ++ e ∷ []) d ≡ children_of es d + one_if (is_child d e)
 children_more [] e d some = absurd (omega arith)
 children_more (x ∷ es) e d some = sum_by_push (λ x. one_if (is_child d x)) es e
 
-pub children_less : (es : List (Option Entry)) (i d : ℕ) → 0 < i → i < length es → children_of es d ≡ children_of (set es i None) d + one_if (is_child d (entry_at es i))
+pub children_less : (es : List (Option Entry)) (i d : ℕ) → 0 < i → i < length es
+    → children_of es d ≡ children_of (set es i None) d + one_if (is_child d (entry_at es i))
 children_less [] i d some h = absurd (omega arith)
 children_less (x ∷ es) zero d some h = absurd (omega arith)
 children_less (x ∷ es) (suc i) d some h = let less = sum_by-set (λ x. one_if (is_child d x)) es i None None (omega arith) in omega (arith, less)
 
 counted_none : (test : Option Entry → Bool) (es : List (Option Entry)) → list_any test es ≡ false → count_by test es ≡ 0
 counted_none test [] h = refl
-counted_none test (x ∷ es) h = sum_by-cons (λ x. one_if (test x)) x es ∙ (elim (test x) as (λ b. test x ≡ b → (b || list_any test es) ≡ false → one_if b + count_by test es ≡ 0) [
-  | true ↦ λ is any. absurd (false≢true (sym any))
-  | false ↦ λ is any. let none = counted_none test es any in omega (arith, none)
-] refl h)
+counted_none test (x ∷ es) h = sum_by-cons (λ x. one_if (test x)) x es
+    ∙ (elim (test x) as (λ b. test x ≡ b → (b || list_any test es) ≡ false → one_if b + count_by test es ≡ 0) [
+      | true ↦ λ is any. absurd (false≢true (sym any))
+      | false ↦ λ is any. let none = counted_none test es any in omega (arith, none)
+    ] refl h)
 
 counted_some : (test : Option Entry → Bool) (es : List (Option Entry)) → list_any test es ≡ true → 0 < count_by test es
 counted_some test [] h = absurd (false≢true h)
-counted_some test (x ∷ es) h = subst (λ (n : ℕ). 0 < n) (sym (sum_by-cons (λ x. one_if (test x)) x es)) (elim (test x) as (λ b. test x ≡ b → (b || list_any test es) ≡ true → 0 < one_if b + count_by test es) [
-  | true ↦ λ is any. omega arith
-  | false ↦ λ is any. let some = counted_some test es any in omega (arith, some)
-] refl h)
+counted_some test (x ∷ es) h = subst (λ (n : ℕ). 0 < n) (sym (sum_by-cons (λ x. one_if (test x)) x es))
+    (elim (test x) as (λ b. test x ≡ b → (b || list_any test es) ≡ true → 0 < one_if b + count_by test es) [
+      | true ↦ λ is any. omega arith
+      | false ↦ λ is any. let some = counted_some test es any in omega (arith, some)
+    ] refl h)
 
 -- a directory has a child exactly if some are counted
 pub has_counted : (es : List (Option Entry)) (d : ℕ) → nat_lt 0 (children_of es d) ≡ has_child es d

@@ -25,11 +25,13 @@ pub placed_there : (h : FoldHasher) (es : List (Option Entry)) (d chain : ℕ) �
 placed_there h es d chain is = some_key (entry_at es d) (place_key h (key_at es d) chain is)
 
 -- the chain of a child with this name
-pub key_placed : (h : FoldHasher) (es : List (Option Entry)) (d p : ℕ) (name : List ℕ) → key_at es d ≡ Some (key p name) → place_at h es d ≡ Some (chain_of h p name)
+pub key_placed : (h : FoldHasher) (es : List (Option Entry)) (d p : ℕ) (name : List ℕ) → key_at es d ≡ Some (key p name)
+    → place_at h es d ≡ Some (chain_of h p name)
 key_placed h es d p name is = ap (option_map (λ k. chain_of h k.parent k.name)) is
 
 -- a node that was read, as an entry
-pub node_key : (nodes : List (Option Node)) (d : ℕ) (n : Node) → get_or nodes d None ≡ Some n → key_at (entries_of nodes) d ≡ Some (key n.parent (entry_of n).name)
+pub node_key : (nodes : List (Option Node)) (d : ℕ) (n : Node) → get_or nodes d None ≡ Some n
+    → key_at (entries_of nodes) d ≡ Some (key n.parent (entry_of n).name)
 node_key nodes d n is = ap (option_map key_of) (get_or-map (option_map entry_of) nodes d None ∙ ap (option_map entry_of) is)
 
 pub node_next : (nodes : List (Option Node)) (d : ℕ) (n : Node) → get_or nodes d None ≡ Some n → next_at nodes d ≡ n.next
@@ -58,7 +60,8 @@ no_child es p name none = elim (child_of es p name) as (λ o. child_of es p name
 ] refl
 
 -- a node that was read, under the name that it has
-pub named_here : (nodes : List (Option Node)) (d p : ℕ) (name : List ℕ) (n : Node) → get_or nodes d None ≡ Some n → n.parent ≡ p → n.name ≡ name → key_at (entries_of nodes) d ≡ Some (key p name)
+pub named_here : (nodes : List (Option Node)) (d p : ℕ) (name : List ℕ) (n : Node) → get_or nodes d None ≡ Some n → n.parent ≡ p
+    → n.name ≡ name → key_at (entries_of nodes) d ≡ Some (key p name)
 named_here nodes d p name n is up same = node_key nodes d n is ∙ ap (λ (q : ℕ). Some (key q n.name)) up ∙ ap (λ (text : List ℕ). Some (key p text)) same
 
 -- numbers fall along a chain
@@ -73,14 +76,17 @@ pub record IsNext (place : ℕ → Option ℕ) (low next chain : ℕ) : Type 0 w
   pub placed : place next ≡ Some chain
   pub reach : low ≤ next
 
-pub next_is : (place : ℕ → Option ℕ) (next head : ℕ → ℕ) (low d chain : ℕ) → IsChained place next head → 0 < low → low < d → place low ≡ Some chain → place d ≡ Some chain → IsNext place low (next d) chain
+pub next_is : (place : ℕ → Option ℕ) (next head : ℕ → ℕ) (low d chain : ℕ) → IsChained place next head → 0 < low → low < d
+    → place low ≡ Some chain → place d ≡ Some chain → IsNext place low (next d) chain
 next_is place next head low d chain chained some above is here =
     let near = chained.nearest low d chain some above is here in
     record { placed = (chained.follows d chain (omega (arith, some, above)) here (omega (arith, some, near))).1; reach = near }
 
 -- the chain of a node that was read
-pub node_placed : (h : FoldHasher) (nodes : List (Option Node)) (d chain : ℕ) (n : Node) (name : List ℕ) → get_or nodes d None ≡ Some n → name ≡ n.name → chain ≡ chain_of h n.parent name → place_at h (entries_of nodes) d ≡ Some chain
-node_placed h nodes d chain n name is same at = key_placed h (entries_of nodes) d n.parent (entry_of n).name (node_key nodes d n is) ∙ ap (λ (text : List ℕ). Some (chain_of h n.parent text)) (sym same) ∙ ap Some (sym at)
+pub node_placed : (h : FoldHasher) (nodes : List (Option Node)) (d chain : ℕ) (n : Node) (name : List ℕ) → get_or nodes d None ≡ Some n
+    → name ≡ n.name → chain ≡ chain_of h n.parent name → place_at h (entries_of nodes) d ≡ Some chain
+node_placed h nodes d chain n name is same at = key_placed h (entries_of nodes) d n.parent (entry_of n).name (node_key nodes d n is)
+    ∙ ap (λ (text : List ℕ). Some (chain_of h n.parent text)) (sym same) ∙ ap Some (sym at)
 
 -- a child that was found
 pub record IsFound (es : List (Option Entry)) (name : List ℕ) (d : ℕ) : Type 0 where

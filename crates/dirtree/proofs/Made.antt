@@ -1,5 +1,6 @@
 -- What `make` leaves of a tree's nodes and chains is sound.
-use Rattle.std.proofs.Common.{◌≡◌, ◌≢◌, ℕ, ◌<◌, ◌≤◌, ◌+◌, ◌^◌, List, length, sym, ap, ◌∙◌, refl, arith, inl, inr, [], ◌∷◌, ◌++◌, set, true, false, cond, subst, Bool, Option, Some, None, get_or, length-set, get_or-set_same, get_or-set_other}
+use Rattle.std.proofs.Common.{◌≡◌, ◌≢◌, ℕ, ◌<◌, ◌≤◌, ◌+◌, ◌^◌, List, length, sym, ap, ◌∙◌, refl, arith, inl, inr}
+use Rattle.std.proofs.Common.{[], ◌∷◌, ◌++◌, set, true, false, cond, subst, Bool, Option, Some, None, get_or, length-set, get_or-set_same, get_or-set_other}
 use Rattle.std.proofs.lemmas.Grind.{common_steps}
 use Rattle.std.proofs.lemmas.List.{map-append}
 use Rattle.std.proofs.lemmas.Bool.{false≢true}
@@ -53,10 +54,13 @@ module _ (limit : ℕ) (h : FoldHasher) (nodes after : List (Option Node)) (head
   new_node : get_or (after ++ Some n ∷ []) (length nodes) None ≡ Some n
   new_node = ap (λ (k : ℕ). get_or (after ++ Some n ∷ []) k None) (sym same_length) ∙ get_or-append_seam after (Some n) [] None
 
-  counted : (d : ℕ) → is_there (entries_of nodes ++ Some (entry_of n) ∷ []) d ≡ true → children_at (after ++ Some n ∷ []) d ≡ children_of (entries_of nodes ++ Some (entry_of n) ∷ []) d
+  counted : (d : ℕ) → is_there (entries_of nodes ++ Some (entry_of n) ∷ []) d ≡ true
+      → children_at (after ++ Some n ∷ []) d ≡ children_of (entries_of nodes ++ Some (entry_of n) ∷ []) d
   counted d stands =
       let below = inside (entries_of nodes) n.parent there in
-      let more : children_of (entries_of nodes ++ Some (entry_of n) ∷ []) d ≡ children_of (entries_of nodes) d + one_if (nat_eq n.parent d) = children_more (entries_of nodes) (Some (entry_of n)) d (omega (arith, below)) in
+      let more : children_of (entries_of nodes ++ Some (entry_of n) ∷ []) d
+      ≡ children_of (entries_of nodes) d + one_if (nat_eq n.parent d) =
+      children_more (entries_of nodes) (Some (entry_of n)) d (omega (arith, below)) in
       elim (places (entries_of nodes) (Some (entry_of n)) d) [
         | inl old ↦
             let was : is_there (entries_of nodes) d ≡ true = ap is_some (sym old.1) ∙ stands in
@@ -69,7 +73,8 @@ module _ (limit : ℕ) (h : FoldHasher) (nodes after : List (Option Node)) (head
           | inl last ↦
               let e : d ≡ length nodes = last.0 ∙ length-entries nodes in
               let other : nat_eq n.parent d ≡ false = is_other n.parent d (λ same. let at = last.0 in absurd (omega (arith, same, at, below))) in
-              let none : children_of (entries_of nodes) d ≡ 0 = none_counted (entries_of nodes) d sound.tree (outside (entries_of nodes) d (let at = last.0 in omega (arith, at))) in
+              let none : children_of (entries_of nodes) d ≡ 0 = none_counted (entries_of nodes) d sound.tree
+              (outside (entries_of nodes) d (let at = last.0 in omega (arith, at))) in
               ap (λ (k : ℕ). children_at (after ++ Some n ∷ []) k) e
               ∙ ap (λ (m : Option Node). option_map_or (λ n. n.children) m 0) new_node
               ∙ fresh ∙ sym (more ∙ ap (λ (k : ℕ). k + one_if (nat_eq n.parent d)) none ∙ ap (λ (b : Bool). 0 + one_if b) other)
@@ -80,11 +85,13 @@ module _ (limit : ℕ) (h : FoldHasher) (nodes after : List (Option Node)) (head
   abbrev chain : ℕ
   chain = chain_of h n.parent n.name
 
-  chained : IsChained (place_at h (entries_of nodes ++ Some (entry_of n) ∷ [])) (next_at (after ++ Some n ∷ [])) (head_at (set heads (chain_of h n.parent n.name) (length nodes)))
+  chained : IsChained (place_at h (entries_of nodes ++ Some (entry_of n) ∷ [])) (next_at (after ++ Some n ∷ []))
+      (head_at (set heads (chain_of h n.parent n.name) (length nodes)))
   chained =
       let below = inside (entries_of nodes) n.parent there in
       let count = length-entries nodes in
-      chained_grown (place_at h (entries_of nodes)) (place_at h (entries_of nodes ++ Some (entry_of n) ∷ [])) (next_at nodes) (next_at (after ++ Some n ∷ [])) (head_at heads) (head_at (set heads chain (length nodes))) (length nodes) chain
+      chained_grown (place_at h (entries_of nodes)) (place_at h (entries_of nodes ++ Some (entry_of n) ∷ [])) (next_at nodes)
+      (next_at (after ++ Some n ∷ [])) (head_at heads) (head_at (set heads chain (length nodes))) (length nodes) chain
       sound.chained (omega (arith, below, count))
       (λ d k is. let low = inside (entries_of nodes) d (placed_there h (entries_of nodes) d k is) in omega (arith, low, count))
       (λ d low. ap (λ (e : Option Entry). option_map (λ (k : Key). chain_of h k.parent k.name) (option_map key_of e)) (old_entry d low))
@@ -104,7 +111,8 @@ module _ (limit : ℕ) (h : FoldHasher) (nodes after : List (Option Node)) (head
       ]
 
       new_entry : entry_at (entries_of nodes ++ Some (entry_of n) ∷ []) (length nodes) ≡ Some (entry_of n)
-      new_entry = ap (λ (k : ℕ). entry_at (entries_of nodes ++ Some (entry_of n) ∷ []) k) (sym (length-entries nodes)) ∙ get_or-append_seam (entries_of nodes) (Some (entry_of n)) [] None
+      new_entry = ap (λ (k : ℕ). entry_at (entries_of nodes ++ Some (entry_of n) ∷ []) k) (sym (length-entries nodes))
+          ∙ get_or-append_seam (entries_of nodes) (Some (entry_of n)) [] None
 
       front : head_at (set heads chain (length nodes)) chain ≡ length nodes
       front = let wide = sound.wide in let in_ : chain < length heads = omega (arith, wide, short) in get_or-set_same heads chain (length nodes) 0 in_
@@ -115,15 +123,21 @@ module _ (limit : ℕ) (h : FoldHasher) (nodes after : List (Option Node)) (head
   pub sound_more : IsSound limit h (after ++ Some n ∷ []) (set heads (chain_of h n.parent n.name) (length nodes))
   sound_more = record {
     small = sound.small;
-    within = let longer = made_length (entries_of nodes) (Some (entry_of n)) in let all : length (after ++ Some n ∷ []) ≡ length nodes + 1 = sym (length-entries (after ++ Some n ∷ [])) ∙ ap (λ (es : List (Option Entry)). length es) split ∙ longer ∙ ap (λ (k : ℕ). k + 1) (length-entries nodes) in omega (arith, all, room);
+    within = let longer = made_length (entries_of nodes) (Some (entry_of n)) in
+        let all : length (after ++ Some n ∷ []) ≡ length nodes + 1 = sym (length-entries (after ++ Some n ∷ []))
+        ∙ ap (λ (es : List (Option Entry)). length es) split ∙ longer ∙ ap (λ (k : ℕ). k + 1) (length-entries nodes) in
+        omega (arith, all, room);
     wide = simp length-set sound.wide;
     tree = subst (λ (es : List (Option Entry)). IsTree es) (sym split) grows;
-    counted = subst (λ (es : List (Option Entry)). (d : ℕ) → is_there es d ≡ true → children_at (after ++ Some n ∷ []) d ≡ children_of es d) (sym split) counted;
-    chained = subst (λ (es : List (Option Entry)). IsChained (place_at h es) (next_at (after ++ Some n ∷ [])) (head_at (set heads (chain_of h n.parent n.name) (length nodes)))) (sym split) chained;
+    counted = subst (λ (es : List (Option Entry)). (d : ℕ) → is_there es d ≡ true → children_at (after ++ Some n ∷ []) d ≡ children_of es d)
+        (sym split) counted;
+    chained = subst (λ (es : List (Option Entry)). IsChained (place_at h es) (next_at (after ++ Some n ∷ []))
+        (head_at (set heads (chain_of h n.parent n.name) (length nodes)))) (sym split) chained;
   }
 
 -- what `make` leaves, from what each of its steps returned
-pub sound_made : (limit : ℕ) (h : FoldHasher) (nodes reserved after pushed : List (Option Node)) (heads : List ℕ) (n : Node) (t : Directories) (parent at first number : ℕ) (name : List ℕ)
+pub sound_made : (limit : ℕ) (h : FoldHasher) (nodes reserved after pushed : List (Option Node)) (heads : List ℕ) (n : Node)
+    (t : Directories) (parent at first number : ℕ) (name : List ℕ)
     → IsSound limit h nodes heads → record { limit = limit; entries = entries_of nodes } ≡ t → make_refusal t parent name ≡ None
     → n.parent ≡ parent → n.name ≡ name → n.children ≡ 0 → n.next ≡ head_at heads first → first ≡ chain_of h parent name → first < 2 ^ 17
     → number ≡ length nodes → reserved ≡ nodes → at ≡ parent
@@ -132,12 +146,16 @@ pub sound_made : (limit : ℕ) (h : FoldHasher) (nodes reserved after pushed : L
     → ((d : ℕ) → next_at after d ≡ next_at reserved d)
     → pushed ≡ after ++ Some n ∷ []
     → IsSound limit h pushed (set heads first number)
-sound_made limit h nodes reserved after pushed heads n t parent at first number name sound view allowed up named fresh leads is_chain short count same here entries children nexts pushes =
-    let may : MayMake (record { limit = limit; entries = entries_of nodes }) parent name = subst (λ (t : Directories). MayMake t parent name) (sym view) (may_make t parent name allowed) in
+sound_made limit h nodes reserved after pushed heads n t parent at first number name sound view allowed up named fresh leads is_chain short
+    count same here entries children nexts pushes =
+    let may : MayMake (record { limit = limit; entries = entries_of nodes }) parent name =
+    subst (λ (t : Directories). MayMake t parent name) (sym view) (may_make t parent name allowed) in
     let there : is_there (entries_of nodes) n.parent ≡ true = ap (is_there (entries_of nodes)) up ∙ may.there in
     let few : length (entries_of nodes) < limit = may.room in
-    let refused : make_refusal (record { limit = limit; entries = entries_of nodes }) n.parent n.name ≡ None = subst (λ (t : Directories). make_refusal t n.parent n.name ≡ None) (sym view) (rw (up, named) allowed) in
-    let grows : IsTree (entries_of nodes ++ Some (entry_of n) ∷ []) = made_tree (record { limit = limit; entries = entries_of nodes }) n.parent n.name n.inodes sound.tree refused in
+    let refused : make_refusal (record { limit = limit; entries = entries_of nodes }) n.parent n.name
+    ≡ None = subst (λ (t : Directories). make_refusal t n.parent n.name ≡ None) (sym view) (rw (up, named) allowed) in
+    let grows : IsTree (entries_of nodes ++ Some (entry_of n) ∷ []) =
+    made_tree (record { limit = limit; entries = entries_of nodes }) n.parent n.name n.inodes sound.tree refused in
     let stands : first ≡ chain_of h n.parent n.name = rw (up, named) is_chain in
     let all : IsSound limit h (after ++ Some n ∷ []) (set heads (chain_of h n.parent n.name) (length nodes)) =
     sound_more limit h nodes after heads n sound there (omega (arith, few, length-entries nodes)) grows fresh

@@ -13,7 +13,8 @@ use Rattle.dirtree.proofs.Sound.{length-entries}
 pub read_at : (nodes : List (Option Node)) (i : ℕ) (n : Option Node) → i < length nodes → n ≡ get_or nodes i n → get_or nodes i None ≡ n
 read_at nodes i n inside is = grind (arith, common_steps)
 
-pub entries_set : (nodes : List (Option Node)) (i : ℕ) (n m : Node) → get_or nodes i None ≡ Some m → entry_of n ≡ entry_of m → entries_of (set nodes i (Some n)) ≡ entries_of nodes
+pub entries_set : (nodes : List (Option Node)) (i : ℕ) (n m : Node) → get_or nodes i None ≡ Some m → entry_of n ≡ entry_of m
+    → entries_of (set nodes i (Some n)) ≡ entries_of nodes
 entries_set nodes i n m was same = map-set_same (option_map entry_of) nodes i (Some n) None (ap Some same ∙ ap (option_map entry_of) (sym was))
 
 -- where there is a directory, there is a place

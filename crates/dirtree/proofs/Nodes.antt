@@ -1,5 +1,6 @@
 -- The entries of a tree with the indexes of their names.
-use Rattle.std.proofs.Common.{◌≡◌, ℕ, ◌<◌, ◌≤◌, ◌+◌, ◌-◌, List, sym, ap, ◌∙◌, refl, arith, [], ◌∷◌, zero, suc, drop, true, false, cond, subst, Option, Some, None, get_or}
+use Rattle.std.proofs.Common.{◌≡◌, ℕ, ◌<◌, ◌≤◌, ◌+◌, ◌-◌, List, sym, ap, ◌∙◌, refl, arith, []}
+use Rattle.std.proofs.Common.{◌∷◌, zero, suc, drop, true, false, cond, subst, Option, Some, None, get_or}
 use Rattle.std.proofs.lemmas.Bool.{and_parts, and_from, false≢true}
 use Rattle.std.proofs.lemmas.Bool.Decides.{Decides-eqb}
 use Rattle.std.proofs.lemmas.List.{get_or-drop}
@@ -25,26 +26,35 @@ pub key_named : (e : Option Entry) (p : ℕ) (name : List ℕ) → option_map ke
 key_named None p name h = cc
 key_named (Some e) p name h =
     let same : key_of e ≡ key p name = cc in
-    and_from (nat_eq e.parent p) (bytes_eq e.name name) ((Decides-eqb e.parent p).1 (ap (λ (k : Key). k.parent) same)) ((bytes_eq-Decides e.name name).1 (ap (λ (k : Key). k.name) same))
+    and_from (nat_eq e.parent p) (bytes_eq e.name name) ((Decides-eqb e.parent p).1 (ap (λ (k : Key). k.parent) same))
+    ((bytes_eq-Decides e.name name).1 (ap (λ (k : Key). k.name) same))
 
 -- the number that the search finds
-pub found_from : (first : ℕ) (entries : List (Option Entry)) (p c : ℕ) (name : List ℕ) → child_from first entries p name ≡ Some c → (first ≤ c) × (is_named_child p name (get_or entries (c - first) None) ≡ true)
+pub found_from : (first : ℕ) (entries : List (Option Entry)) (p c : ℕ) (name : List ℕ) → child_from first entries p name ≡ Some c
+    → (first ≤ c) × (is_named_child p name (get_or entries (c - first) None) ≡ true)
 found_from first [] p c name h = cc
 found_from first (e ∷ entries) p c name h =
-    elim (is_named_child p name e) as (λ b. is_named_child p name e ≡ b → cond b (Some first) (child_from (suc first) entries p name) ≡ Some c → (first ≤ c) × (is_named_child p name (get_or (e ∷ entries) (c - first) None) ≡ true)) [
+    elim (is_named_child p name e) as (λ b. is_named_child p name e ≡ b
+    → cond b (Some first) (child_from (suc first) entries p name) ≡ Some c
+    → (first ≤ c) × (is_named_child p name (get_or (e ∷ entries) (c - first) None) ≡ true)) [
       | true ↦ λ is here. let at : first ≡ c = cc in (omega arith, rw (← at) (let z : first - first ≡ 0 = omega arith in rw z is))
       | false ↦ λ is there. let later = found_from (suc first) entries p c name there in
           let z : c - first ≡ suc (c - suc first) = omega (arith, later.0) in (omega (arith, later.0), rw z later.1)
     ] refl h
 
-missed_step : (first p i : ℕ) (name : List ℕ) (e : Option Entry) (entries : List (Option Entry)) → ((i : ℕ) → child_from (suc first) entries p name ≡ None → is_named_child p name (get_or entries i None) ≡ false) → is_named_child p name e ≡ false → child_from (suc first) entries p name ≡ None → is_named_child p name (get_or (e ∷ entries) i None) ≡ false
+missed_step : (first p i : ℕ) (name : List ℕ) (e : Option Entry) (entries : List (Option Entry))
+    → ((i : ℕ) → child_from (suc first) entries p name ≡ None → is_named_child p name (get_or entries i None) ≡ false)
+    → is_named_child p name e ≡ false → child_from (suc first) entries p name ≡ None
+    → is_named_child p name (get_or (e ∷ entries) i None) ≡ false
 missed_step first p zero name e entries more is there = is
 missed_step first p (suc i) name e entries more is there = more i there
 
-pub missed_from : (first : ℕ) (entries : List (Option Entry)) (p i : ℕ) (name : List ℕ) → child_from first entries p name ≡ None → is_named_child p name (get_or entries i None) ≡ false
+pub missed_from : (first : ℕ) (entries : List (Option Entry)) (p i : ℕ) (name : List ℕ) → child_from first entries p name ≡ None
+    → is_named_child p name (get_or entries i None) ≡ false
 missed_from first [] p i name h = refl
 missed_from first (e ∷ entries) p i name h =
-    elim (is_named_child p name e) as (λ b. is_named_child p name e ≡ b → cond b (Some first) (child_from (suc first) entries p name) ≡ None → is_named_child p name (get_or (e ∷ entries) i None) ≡ false) [
+    elim (is_named_child p name e) as (λ b. is_named_child p name e ≡ b → cond b (Some first) (child_from (suc first) entries p name) ≡ None
+    → is_named_child p name (get_or (e ∷ entries) i None) ≡ false) [
       | true ↦ λ is bad. cc
       | false ↦ λ is there. missed_step first p i name e entries (λ j none. missed_from (suc first) entries p j name none) is there
     ] refl h
@@ -60,7 +70,8 @@ pub record IsPlaced (entries : List (Option Entry)) (d : ℕ) (k : Key) : Type 0
   pub parent_is : parent_of entries d ≡ k.parent
   pub name_is : name_of entries d ≡ k.name
 
-placed : (e : Option Entry) → is_some e ≡ true → (k : Key) × (option_map key_of e ≡ Some k) × (option_map_or (λ e. e.parent) e 0 ≡ k.parent) × (option_map_or (λ e. e.name) e [] ≡ k.name)
+placed : (e : Option Entry) → is_some e ≡ true → (k : Key) × (option_map key_of e ≡ Some k) × (option_map_or (λ e. e.parent) e 0 ≡ k.parent)
+    × (option_map_or (λ e. e.name) e [] ≡ k.name)
 placed None there = absurd (false≢true there)
 placed (Some e) there = (key_of e, refl, refl, refl)
 

@@ -1,5 +1,6 @@
 -- What `remove` leaves of a tree's nodes and chains is sound.
-use Rattle.std.proofs.Common.{◌≡◌, ◌≢◌, ℕ, ◌<◌, ◌+◌, ◌^◌, List, length, sym, ap, ◌∙◌, refl, arith, set, true, false, cond, subst, Bool, Option, Some, None, get_or, length-set, get_or-set_same, get_or-set_other}
+use Rattle.std.proofs.Common.{◌≡◌, ◌≢◌, ℕ, ◌<◌, ◌+◌, ◌^◌, List, length, sym, ap, ◌∙◌, refl, arith}
+use Rattle.std.proofs.Common.{set, true, false, cond, subst, Bool, Option, Some, None, get_or, length-set, get_or-set_same, get_or-set_other}
 use Rattle.std.proofs.lemmas.Bool.{false≢true}
 use Rattle.std.proofs.Math.ListN.{get_or-map}
 use Rattle.std.specs.Option.{option_map, option_map_or}
@@ -35,12 +36,15 @@ pub record IsLeaf (h : FoldHasher) (nodes : List (Option Node)) (dir : ℕ) (n :
   pub in_chain : place_at h (entries_of nodes) dir ≡ Some chain
   pub shrinks : IsTree (set (entries_of nodes) dir None)
 
-pub leaf : (limit : ℕ) (h : FoldHasher) (nodes : List (Option Node)) (heads : List ℕ) (t : Directories) (dir at : ℕ) (slot : Option Node) (n : Node) (chain : ℕ) → IsSound limit h nodes heads
+pub leaf : (limit : ℕ) (h : FoldHasher) (nodes : List (Option Node)) (heads : List ℕ) (t : Directories) (dir at : ℕ) (slot : Option Node)
+    (n : Node) (chain : ℕ) → IsSound limit h nodes heads
     → record { limit = limit; entries = entries_of nodes } ≡ t → remove_refusal t dir ≡ None
     → at ≡ dir → slot ≡ get_or nodes at slot → slot ≡ Some n → place_at h (entries_of nodes) dir ≡ Some chain → IsLeaf h nodes dir n chain
 leaf limit h nodes heads t dir at slot n chain sound view allowed here read is in_chain =
-    let refused : remove_refusal (record { limit = limit; entries = entries_of nodes }) dir ≡ None = subst (λ (t : Directories). remove_refusal t dir ≡ None) (sym view) allowed in
-    let may : MayRemove (record { limit = limit; entries = entries_of nodes }) dir = may_remove (record { limit = limit; entries = entries_of nodes }) dir refused in
+    let refused : remove_refusal (record { limit = limit; entries = entries_of nodes }) dir
+    ≡ None = subst (λ (t : Directories). remove_refusal t dir ≡ None) (sym view) allowed in
+    let may : MayRemove (record { limit = limit; entries = entries_of nodes }) dir =
+    may_remove (record { limit = limit; entries = entries_of nodes }) dir refused in
     let below : dir < length nodes = placed nodes dir may.there in
     record {
       some = may.some;
@@ -64,10 +68,12 @@ module _ (limit : ℕ) (h : FoldHasher) (nodes : List (Option Node)) (heads : Li
   other_up e = let below = up.above some in absurd (omega (arith, below, e))
 
   pub parent_stands : is_there (entries_of (set nodes gone None)) n.parent ≡ true
-  parent_stands = ap (λ (es : List (Option Entry)). is_there es n.parent) (map_taken nodes gone) ∙ ap is_some (stays (entries_of nodes) n.parent gone other_up) ∙ up.parent
+  parent_stands = ap (λ (es : List (Option Entry)). is_there es n.parent) (map_taken nodes gone)
+      ∙ ap is_some (stays (entries_of nodes) n.parent gone other_up) ∙ up.parent
 
   counts : (d : ℕ) → children_of (entries_of nodes) d ≡ children_of (set (entries_of nodes) gone None) d + one_if (nat_eq n.parent d)
-  counts d = children_less (entries_of nodes) gone d some (inside (entries_of nodes) gone there) ∙ ap (λ (e : Option Entry). children_of (set (entries_of nodes) gone None) d + one_if (is_child d e)) entry
+  counts d = children_less (entries_of nodes) gone d some (inside (entries_of nodes) gone there)
+      ∙ ap (λ (e : Option Entry). children_of (set (entries_of nodes) gone None) d + one_if (is_child d e)) entry
 
   children_stay : (d : ℕ) → d ≢ gone → children_at (set nodes gone None) d ≡ children_at nodes d
   children_stay d other = ap (λ (m : Option Node). option_map_or (λ n. n.children) m 0) (node_stays nodes d gone other)
@@ -99,11 +105,13 @@ module _ (limit : ℕ) (h : FoldHasher) (nodes : List (Option Node)) (heads : Li
         stood : is_there (entries_of nodes) d ≡ true
         stood = ap is_some (sym (stays (entries_of nodes) d gone other)) ∙ stands
 
-    pub sound_less : length heads_ ≡ 2 ^ 17 → IsChained (place_at h (set (entries_of nodes) gone None)) (next_at after) (head_at heads_) → IsSound limit h after heads_
+    pub sound_less : length heads_ ≡ 2 ^ 17 → IsChained (place_at h (set (entries_of nodes) gone None)) (next_at after) (head_at heads_)
+        → IsSound limit h after heads_
     sound_less wide chained = record {
       small = sound.small;
       within =
-          let count : length after ≡ length nodes = sym (length-entries after) ∙ ap (λ (es : List (Option Entry)). length es) less ∙ simp length-set (length-entries nodes) in
+          let count : length after ≡ length nodes = sym (length-entries after) ∙ ap (λ (es : List (Option Entry)). length es) less
+          ∙ simp length-set (length-entries nodes) in
           let few = sound.within in
           omega (arith, count, few);
       wide = wide;
@@ -125,7 +133,8 @@ module _ (limit : ℕ) (h : FoldHasher) (nodes : List (Option Node)) (heads : Li
     pub first_gone : chain < 2 ^ 17 → head_at heads chain ≡ gone → heads_ ≡ set heads chain n.next
         → ((d : ℕ) → next_at after d ≡ next_at (set nodes gone None) d) → IsSound limit h after heads_
     first_gone short first told nexts = sound_less (ap (λ (hs : List ℕ). length hs) told ∙ simp length-set sound.wide)
-        (chained_first (place_at h (entries_of nodes)) (place_at h (set (entries_of nodes) gone None)) (next_at nodes) (next_at after) (head_at heads) (head_at heads_) gone chain
+        (chained_first (place_at h (entries_of nodes)) (place_at h (set (entries_of nodes) gone None)) (next_at nodes) (next_at after)
+        (head_at heads) (head_at heads_) gone chain
         sound.chained some in_chain same none first (λ d other. nexts d ∙ nexts_stay d other) front fronts)
       where
         front : head_at heads_ chain ≡ next_at nodes gone
@@ -144,18 +153,22 @@ module _ (limit : ℕ) (h : FoldHasher) (nodes : List (Option Node)) (heads : Li
     pub later_gone : (before : ℕ) → 0 < before → next_at nodes before ≡ gone → place_at h (entries_of nodes) before ≡ Some chain → heads_ ≡ heads
         → ((d : ℕ) → next_at after d ≡ cond (nat_eq d before) n.next (next_at (set nodes gone None) d)) → IsSound limit h after heads_
     later_gone before more to placed told nexts = sound_less (ap (λ (hs : List ℕ). length hs) told ∙ sound.wide)
-        (chained_later (place_at h (entries_of nodes)) (place_at h (set (entries_of nodes) gone None)) (next_at nodes) (next_at after) (head_at heads) (head_at heads_) gone chain
+        (chained_later (place_at h (entries_of nodes)) (place_at h (set (entries_of nodes) gone None)) (next_at nodes) (next_at after)
+        (head_at heads) (head_at heads_) gone chain
         sound.chained some in_chain same none before more to placed skips passes (λ c. ap (λ (hs : List ℕ). head_at hs c) told))
       where
         skips : next_at after before ≡ next_at nodes gone
-        skips = nexts before ∙ ap (λ (b : Bool). cond b n.next (next_at (set nodes gone None) before)) (is_equal before before refl) ∙ sym (node_next nodes gone n was)
+        skips = nexts before ∙ ap (λ (b : Bool). cond b n.next (next_at (set nodes gone None) before)) (is_equal before before refl)
+            ∙ sym (node_next nodes gone n was)
 
         passes : (d : ℕ) → d ≢ gone → d ≢ before → next_at after d ≡ next_at nodes d
         passes d other away = nexts d ∙ ap (λ (b : Bool). cond b n.next (next_at (set nodes gone None) d)) (is_other d before away) ∙ nexts_stay d other
 
     -- the one before it is still there
-    pub before_stands : (before : ℕ) → 0 < before → next_at nodes before ≡ gone → place_at h (entries_of nodes) before ≡ Some chain → is_there (entries_of after) before ≡ true
+    pub before_stands : (before : ℕ) → 0 < before → next_at nodes before ≡ gone → place_at h (entries_of nodes) before ≡ Some chain
+        → is_there (entries_of after) before ≡ true
     before_stands before more to placed =
         let under = (sound.chained.follows before chain more placed (omega (arith, to, some))).0 in
         let other : before ≢ gone = λ e. absurd (omega (arith, under, to, e)) in
-        ap (λ (es : List (Option Entry)). is_there es before) less ∙ ap is_some (stays (entries_of nodes) before gone other) ∙ placed_there h (entries_of nodes) before chain placed
+        ap (λ (es : List (Option Entry)). is_there es before) less ∙ ap is_some (stays (entries_of nodes) before gone other)
+        ∙ placed_there h (entries_of nodes) before chain placed

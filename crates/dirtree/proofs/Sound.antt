@@ -1,5 +1,6 @@
 -- What a tree refuses, and what it has of children and rows.
-use Rattle.std.proofs.Common.{◌≡◌, ℕ, ◌<◌, ◌+◌, ◌-◌, List, length, sym, ap, ◌∙◌, refl, arith, [], ◌∷◌, ◌++◌, zero, suc, set, drop, Bool, true, false, not, cond, ◌||◌, subst, Option, Some, None, get_or, add-one, add-zero, zero-add, take}
+use Rattle.std.proofs.Common.{◌≡◌, ℕ, ◌<◌, ◌+◌, ◌-◌, List, length, sym, ap, ◌∙◌, refl, arith, [], ◌∷◌, ◌++◌, zero, suc}
+use Rattle.std.proofs.Common.{set, drop, Bool, true, false, not, cond, ◌||◌, subst, Option, Some, None, get_or, add-one, add-zero, zero-add, take}
 use Rattle.std.proofs.lemmas.Grind.{common_steps}
 use Rattle.std.proofs.lemmas.List.{length-map, get_or-drop, map_more}
 use Rattle.std.proofs.lemmas.Bool.{false≢true, ltb-true}
@@ -93,20 +94,24 @@ key_child d name (Some e) h = let same : key_of e ≡ key d name = only h in (De
     only h = cc
 
 -- a directory has a child exactly if its index names one
-pub child_indexed : (es : List (Option Entry)) (indexed : ℕ → List ℕ → Option ℕ) (d : ℕ) → IsIndexed es indexed → has_child es d ≡ true → (name : List ℕ) × (child : ℕ) × (indexed d name ≡ Some child)
+pub child_indexed : (es : List (Option Entry)) (indexed : ℕ → List ℕ → Option ℕ) (d : ℕ) → IsIndexed es indexed → has_child es d ≡ true
+    → (name : List ℕ) × (child : ℕ) × (indexed d name ≡ Some child)
 child_indexed es indexed d index h =
     let hit = at_any (is_child d) (drop 1 es) h in
     let k = child_key d (get_or (drop 1 es) hit.0 None) hit.1 in
     let at : key_at es (1 + hit.0) ≡ Some k.0 = ap (option_map key_of) (sym (get_or-drop 1 es hit.0 None)) ∙ k.1 in
     (k.0.name, 1 + hit.0, subst (λ (p : ℕ). indexed p k.0.name ≡ Some (1 + hit.0)) k.2 (index.found (1 + hit.0) k.0 (omega arith) at))
 
-pub indexed_child : (es : List (Option Entry)) (indexed : ℕ → List ℕ → Option ℕ) (d child : ℕ) (name : List ℕ) → IsIndexed es indexed → indexed d name ≡ Some child → has_child es d ≡ true
+pub indexed_child : (es : List (Option Entry)) (indexed : ℕ → List ℕ → Option ℕ) (d child : ℕ) (name : List ℕ) → IsIndexed es indexed
+    → indexed d name ≡ Some child → has_child es d ≡ true
 indexed_child es indexed d child name index h =
     let at = index.finds d child name h in
     let below : child < length es = inside es child (there_by_key es child (key d name) at.1) in
     let place : 1 + (child - 1) ≡ child = omega (arith, at.0) in
     let short : child - 1 < length (drop 1 es) = shorter es (child - 1) (omega (arith, below, at.0)) in
-    any_at (is_child d) (drop 1 es) (child - 1) short (subst (λ (e : Option Entry). is_child d e ≡ true) (sym (get_or-drop 1 es (child - 1) None ∙ ap (λ (i : ℕ). get_or es i None) place)) (key_child d name (entry_at es child) at.1))
+    any_at (is_child d) (drop 1 es) (child - 1) short
+    (subst (λ (e : Option Entry). is_child d e ≡ true)
+    (sym (get_or-drop 1 es (child - 1) None ∙ ap (λ (i : ℕ). get_or es i None) place)) (key_child d name (entry_at es child) at.1))
   where
     shorter : (es : List (Option Entry)) (i : ℕ) → 1 + i < length es → i < length (drop 1 es)
     shorter [] i h = absurd (omega arith)
@@ -121,15 +126,21 @@ pub no_names : (o : Option ℕ) → ((child : ℕ) → o ≡ Some child → ⊥)
 no_names None h = refl
 no_names (Some child) h = absurd (h child refl)
 
-rows_after : (first : ℕ) (es : List (Option Entry)) (e : Option Entry) → rows_from first (es ++ e ∷ []) ≡ rows_from first es ++ rows_from (first + length es) (e ∷ [])
+rows_after : (first : ℕ) (es : List (Option Entry)) (e : Option Entry)
+    → rows_from first (es ++ e ∷ []) ≡ rows_from first es ++ rows_from (first + length es) (e ∷ [])
 rows_after first [] e = ap (λ (k : ℕ). rows_from k (e ∷ [])) (sym (add-zero first))
 rows_after first (None ∷ es) e = rows_after (suc first) es e ∙ ap (λ (k : ℕ). rows_from (suc first) es ++ rows_from k (e ∷ [])) (omega arith)
 rows_after first (Some x ∷ es) e = ap (λ (rows : List TreeRow). record { dir = first; parent = x.parent; inodes = x.inodes } ∷ rows)
     (rows_after (suc first) es e ∙ ap (λ (k : ℕ). rows_from (suc first) es ++ rows_from k (e ∷ [])) (omega arith))
 
 -- one more place, with a directory or without
-pub rows_more : (nodes : List (Option Node)) (i : ℕ) (slot : Option Node) → i < length nodes → slot ≡ get_or nodes i slot → rows_from 0 (entries_of (take (i + 1) nodes)) ≡ rows_from 0 (entries_of (take i nodes)) ++ rows_from i (option_map entry_of slot ∷ [])
+pub rows_more : (nodes : List (Option Node)) (i : ℕ) (slot : Option Node) → i < length nodes → slot ≡ get_or nodes i slot
+    → rows_from 0 (entries_of (take (i + 1) nodes)) ≡ rows_from 0 (entries_of (take i nodes)) ++ rows_from i (option_map entry_of slot ∷ [])
 rows_more nodes i slot below read =
-    let last : entries_of (take (i + 1) nodes) ≡ entries_of (take i nodes) ++ option_map entry_of slot ∷ [] = map_more (option_map entry_of) nodes i slot below ∙ ap (λ (n : Option Node). entries_of (take i nodes) ++ option_map entry_of n ∷ []) (sym read) in
-    let place : 0 + length (entries_of (take i nodes)) ≡ i = zero-add (length (entries_of (take i nodes))) ∙ length-entries (take i nodes) ∙ (let short : length (take i nodes) ≡ i = grind (arith, common_steps) in short) in
-    ap (rows_from 0) last ∙ rows_after 0 (entries_of (take i nodes)) (option_map entry_of slot) ∙ ap (λ (k : ℕ). rows_from 0 (entries_of (take i nodes)) ++ rows_from k (option_map entry_of slot ∷ [])) place
+    let last : entries_of (take (i + 1) nodes) ≡ entries_of (take i nodes)
+    ++ option_map entry_of slot ∷ [] = map_more (option_map entry_of) nodes i slot below
+    ∙ ap (λ (n : Option Node). entries_of (take i nodes) ++ option_map entry_of n ∷ []) (sym read) in
+    let place : 0 + length (entries_of (take i nodes)) ≡ i = zero-add (length (entries_of (take i nodes))) ∙ length-entries (take i nodes)
+    ∙ (let short : length (take i nodes) ≡ i = grind (arith, common_steps) in short) in
+    ap (rows_from 0) last ∙ rows_after 0 (entries_of (take i nodes)) (option_map entry_of slot)
+    ∙ ap (λ (k : ℕ). rows_from 0 (entries_of (take i nodes)) ++ rows_from k (option_map entry_of slot ∷ [])) place

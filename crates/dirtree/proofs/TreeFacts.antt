@@ -1,5 +1,6 @@
 -- What a change leaves of a tree, and what its reads say.
-use Rattle.std.proofs.Common.{◌≡◌, ◌≢◌, ◌==◌, ℕ, ◌<◌, ◌+◌, List, [], ◌∷◌, ◌++◌, length, sym, ap, ◌∙◌, refl, arith, subst, true, false, cond, set, inl, inr, suc, get_or, add-zero, add-one, zero-add, Option, Some, None, ◌↔◌, ◌&&◌}
+use Rattle.std.proofs.Common.{◌≡◌, ◌≢◌, ◌==◌, ℕ, ◌<◌, ◌+◌, List, [], ◌∷◌, ◌++◌, length, sym, ap, ◌∙◌, refl, arith, subst}
+use Rattle.std.proofs.Common.{true, false, cond, set, inl, inr, suc, get_or, add-zero, add-one, zero-add, Option, Some, None, ◌↔◌, ◌&&◌}
 use Rattle.std.proofs.lemmas.Bool.{false≢true}
 use Rattle.std.proofs.lemmas.Bool.Decides.{Decides-eqb}
 use Rattle.std.proofs.lemmas.Grind.{common_steps}
@@ -8,18 +9,21 @@ use Rattle.std.specs.Option.{option_map}
 use Rattle.std.specs.Prelude.{nat_eq}
 use Rattle.std.specs.Str.{bytes_eq}
 use Rattle.dirtree.specs.declared.tree.TreeRow.{TreeRow}
-use Rattle.dirtree.specs.Tree.{Directories, Entry, IsTree, entry_at, name_of, child_of, has_child, IsChild, make_refusal, remove_refusal, with_child, without, row_at, rows_from}
+use Rattle.dirtree.specs.Tree.{Directories, Entry, IsTree, entry_at, name_of, child_of, has_child}
+use Rattle.dirtree.specs.Tree.{IsChild, make_refusal, remove_refusal, with_child, without, row_at, rows_from}
 use Rattle.dirtree.specs.Keeps.{Key, key}
 use Rattle.dirtree.proofs.Nodes.{place, is_tree}
 use Rattle.dirtree.proofs.Children.{keyed, child_is, child_by_key, index}
 use Rattle.dirtree.proofs.Changes.{grown, shrunk, places, emptied}
 use Rattle.dirtree.proofs.Sound.{MayMake, may_make, MayRemove, may_remove, child_indexed, indexed_child, no_names}
 
-pub made_tree : (t : Directories) (parent : ℕ) (name : List ℕ) (inodes : ℕ) → IsTree t.entries → make_refusal t parent name ≡ None → IsTree (with_child t parent name inodes).entries
+pub made_tree : (t : Directories) (parent : ℕ) (name : List ℕ) (inodes : ℕ) → IsTree t.entries → make_refusal t parent name ≡ None
+    → IsTree (with_child t parent name inodes).entries
 made_tree t parent name inodes tree allowed =
     let may : MayMake t parent name = may_make t parent name allowed in
     is_tree (t.entries ++ Some (record { parent = parent; name = name; inodes = inodes }) ∷ []) after
-    (grown t.entries (child_of t.entries) after (index t.entries tree) (record { parent = parent; name = name; inodes = inodes }) may.there may.named may.free (λ p text. refl))
+    (grown t.entries (child_of t.entries) after (index t.entries tree) (record { parent = parent; name = name; inodes = inodes }) may.there
+    may.named may.free (λ p text. refl))
   where
     after : ℕ → List ℕ → Option ℕ
     after = λ p text. cond (nat_eq p parent && bytes_eq name text) (Some (length t.entries)) (child_of t.entries p text)
@@ -28,7 +32,9 @@ pub removed_tree : (t : Directories) (d : ℕ) → IsTree t.entries → remove_r
 removed_tree t d tree allowed =
     let may : MayRemove t d = may_remove t d allowed in
     let k = place t.entries d may.there in
-    let childless : (text : List ℕ) → child_of t.entries d text ≡ None = λ text. no_names (child_of t.entries d text) (λ child h. false≢true (sym may.childless ∙ indexed_child t.entries (child_of t.entries) d child text (index t.entries tree) h)) in
+    let childless : (text : List ℕ) → child_of t.entries d text
+    ≡ None = λ text. no_names (child_of t.entries d text)
+    (λ child h. false≢true (sym may.childless ∙ indexed_child t.entries (child_of t.entries) d child text (index t.entries tree) h)) in
     is_tree (set t.entries d None) (after k.0)
     (shrunk t.entries (child_of t.entries) (after k.0) (index t.entries tree) d k.0 may.some k.1.key_is childless (λ p text. refl))
   where
@@ -88,12 +94,19 @@ child_any es d tree = (
 abbrev row_of : ℕ → Option Entry → Option TreeRow
 row_of d e = option_map (λ e. record { dir = d; parent = e.parent; inodes = e.inodes }) e
 
-rows_by_number : (row : ℕ → Option TreeRow) (es : List (Option Entry)) (first : ℕ) → ((i : ℕ) → i < length es → row (first + i) ≡ row_of (first + i) (get_or es i None)) → rows_from first es ≡ filter_map row (range_with_len first (length es))
+rows_by_number : (row : ℕ → Option TreeRow) (es : List (Option Entry)) (first : ℕ)
+    → ((i : ℕ) → i < length es → row (first + i) ≡ row_of (first + i) (get_or es i None))
+    → rows_from first es ≡ filter_map row (range_with_len first (length es))
 rows_by_number row [] first reads = refl
 rows_by_number row (e ∷ es) first reads =
     let here : row first ≡ row_of first e = subst (λ (k : ℕ). row k ≡ row_of k e) (add-zero first) (reads 0 (omega arith)) in
-    let more : rows_from (first + 1) es ≡ filter_map row (range_with_len (first + 1) (length es)) = rows_by_number row es (first + 1) (λ i below. subst (λ (k : ℕ). row k ≡ row_of k (get_or es i None)) (omega arith) (rw add-one at (reads (i + 1) (omega (arith, below))))) in
-    first_row e ∙ ap (λ (rows : List TreeRow). cons_option (row_of first e) rows) (ap (λ (k : ℕ). rows_from k es) (sym (add-one first)) ∙ more) ∙ ap (λ (o : Option TreeRow). cons_option o (filter_map row (range_with_len (first + 1) (length es)))) (sym here)
+    let more : rows_from (first + 1) es ≡ filter_map row (range_with_len (first + 1) (length es)) =
+    rows_by_number row es (first + 1)
+    (λ i below. subst (λ (k : ℕ). row k ≡ row_of k (get_or es i None)) (omega arith)
+    (rw add-one at (reads (i + 1) (omega (arith, below))))) in
+    first_row e ∙ ap (λ (rows : List TreeRow). cons_option (row_of first e) rows)
+    (ap (λ (k : ℕ). rows_from k es) (sym (add-one first)) ∙ more)
+    ∙ ap (λ (o : Option TreeRow). cons_option o (filter_map row (range_with_len (first + 1) (length es)))) (sym here)
   where
     first_row : (e : Option Entry) → rows_from first (e ∷ es) ≡ cons_option (row_of first e) (rows_from (suc first) es)
     first_row None = refl

@@ -24,7 +24,8 @@ enough es tree zero (suc k) d few h = absurd (omega arith)
 enough es tree (suc n) (suc k) zero few h = refl
 enough es tree (suc n) (suc k) (suc d) few h =
     let below = above es (suc d) tree (omega arith) in
-    ap (λ (ds : List ℕ). suc d ∷ ds) (enough es tree n k (parent_of es (suc d)) (omega arith) (omega (arith, below)) ∙ sym (enough es tree n d (parent_of es (suc d)) (omega arith) (omega (arith, below))))
+    ap (λ (ds : List ℕ). suc d ∷ ds) (enough es tree n k (parent_of es (suc d)) (omega arith) (omega (arith, below))
+    ∙ sym (enough es tree n d (parent_of es (suc d)) (omega arith) (omega (arith, below))))
 
 -- the way from a parent is the rest of the way from its child
 pub up_parent : (es : List (Option Entry)) (d : ℕ) → IsTree es → up es d (parent_of es (suc d)) ≡ walk_up es (parent_of es (suc d))

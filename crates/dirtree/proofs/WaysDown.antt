@@ -1,5 +1,6 @@
 -- The names down to a directory, each after a slash, and when a text is that.
-use Rattle.std.proofs.Common.{◌≡◌, ◌≢◌, ◌==◌, ◌↔◌, ℕ, zero, suc, ◌<◌, List, [], ◌∷◌, ◌++◌, sym, ap, ◌∙◌, refl, arith, true, append_assoc, Bor, Option, Some, None, Ok}
+use Rattle.std.proofs.Common.{◌≡◌, ◌≢◌, ◌==◌, ◌↔◌, ℕ, zero, suc, ◌<◌, List, [], ◌∷◌, ◌++◌}
+use Rattle.std.proofs.Common.{sym, ap, ◌∙◌, refl, arith, true, append_assoc, Bor, Option, Some, None, Ok}
 use Rattle.std.specs.Prelude.{reverse, is_some, MatchOption, Bool, length}
 use Rattle.std.specs.List.{flat_map}
 use Rattle.std.proofs.lemmas.Bool.Decides.{Decides-eqb}
@@ -35,20 +36,23 @@ leads_down es path (suc d) tree some there = (
 )
 
 -- a text that ends in a slash and a directory's name is the way down to it exactly if the rest is the way down to its parent
-pub one_up : (es : List (Option Entry)) (d : ℕ) (text above : List ℕ) → IsTree es → 0 < d → text ≡ above ++ 47 ∷ name_of es d → (text ≡ way_down es d) ↔ (above ≡ way_down es (parent_of es d))
+pub one_up : (es : List (Option Entry)) (d : ℕ) (text above : List ℕ) → IsTree es → 0 < d → text ≡ above ++ 47 ∷ name_of es d
+    → (text ≡ way_down es d) ↔ (above ≡ way_down es (parent_of es d))
 one_up es d text above tree some ends = (
   (λ h. append_cancel_right above (way_down es (parent_of es d)) (47 ∷ name_of es d) (sym ends ∙ h ∙ way_down-step es d tree some)),
   (λ h. ends ∙ ap (λ (front : List ℕ). front ++ 47 ∷ name_of es d) h ∙ sym (way_down-step es d tree some)),
 )
 
-pub no_way : (es : List (Option Entry)) (d : ℕ) (text : List ℕ) → IsTree es → 0 < d → ((front : List ℕ) → text ≢ front ++ 47 ∷ name_of es d) → text ≢ way_down es d
+pub no_way : (es : List (Option Entry)) (d : ℕ) (text : List ℕ) → IsTree es → 0 < d → ((front : List ℕ) → text ≢ front ++ 47 ∷ name_of es d)
+    → text ≢ way_down es d
 no_way es d text tree some other = λ h. other (way_down es (parent_of es d)) (h ∙ way_down-step es d tree some)
 
 -- a text that ends in a name, and a slash before that
 pub slash_and_name : (text above name : List ℕ) (r : Option (Bor (List ℕ))) → text ≡ above ++ name
     → MatchOption r ((front : List ℕ) → above ≢ front ++ 47 ∷ []) (λ front. above ≡ front.now ++ 47 ∷ [])
     → MatchOption r ((front : List ℕ) → text ≢ front ++ 47 ∷ name) (λ front. text ≡ front.now ++ 47 ∷ name)
-slash_and_name text above name None ends none = λ front is. none front (append_cancel_right above (front ++ 47 ∷ []) name (sym ends ∙ is ∙ sym (append_assoc front (47 ∷ []) name)))
+slash_and_name text above name None ends none = λ front is. none front
+    (append_cancel_right above (front ++ 47 ∷ []) name (sym ends ∙ is ∙ sym (append_assoc front (47 ∷ []) name)))
 slash_and_name text above name (Some front) ends is = ends ∙ ap (λ (xs : List ℕ). xs ++ name) is ∙ append_assoc front.now (47 ∷ []) name
 
 pub no_name : (text name : List ℕ) → ((front : List ℕ) → text ≢ front ++ name) → (front : List ℕ) → text ≢ front ++ 47 ∷ name

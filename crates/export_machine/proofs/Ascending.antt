@@ -1,5 +1,6 @@
 -- Lists that rise: none of their members is there twice, and each is found by halves.
-use Rattle.std.proofs.Common.{◌≡◌, ◌≢◌, ℕ, zero, suc, ◌+◌, ◌<◌, ◌≤◌, Bool, true, false, eqb, ltb, List, [], ◌∷◌, length, get_or, Result, Ok, Err, refl, sym, ap, ◌∙◌, inl, inr, arith}
+use Rattle.std.proofs.Common.{◌≡◌, ◌≢◌, ℕ, zero, suc, ◌+◌, ◌<◌, ◌≤◌, Bool, true, false, eqb, ltb, List}
+use Rattle.std.proofs.Common.{[], ◌∷◌, length, get_or, Result, Ok, Err, refl, sym, ap, ◌∙◌, inl, inr, arith}
 use Rattle.std.specs.List.{IsAllAdjacentAnswer}
 use Rattle.std.specs.List.Sorted.{IsStrictlyIncreasing, IsBinarySearchResult}
 use Rattle.std.specs.Ordering.{nat_cmp}
@@ -49,7 +50,8 @@ in_order xs h i j l n = elim (cases_lt i j) [
 pub found : (xs : List ℕ) (d : ℕ) (r : Result ℕ ℕ) → IsStrictlyIncreasing xs → IsBinarySearchResult (λ y. nat_cmp y d) xs r → is_ok r ≡ is_among xs d
 found xs d r up h = by_case r (searched xs d r h (in_order xs (later xs up)))
   where
-    by_case : (r : Result ℕ ℕ) → MatchResult r (λ i. (i < length xs) × (get_or xs i 0 ≡ d)) (λ i. (i ≤ length xs) × ((k : ℕ) → k < i → get_or xs k 0 < d) × ((k : ℕ) → i ≤ k → k < length xs → d < get_or xs k 0)) →
+    by_case : (r : Result ℕ ℕ) → MatchResult r (λ i. (i < length xs) × (get_or xs i 0 ≡ d))
+        (λ i. (i ≤ length xs) × ((k : ℕ) → k < i → get_or xs k 0 < d) × ((k : ℕ) → i ≤ k → k < length xs → d < get_or xs k 0)) →
         is_ok r ≡ is_among xs d
     by_case (Ok i) m = sym (ap (is_among xs) (sym m.1) ∙ among_at xs i 0 m.0)
     by_case (Err i) m = sym (not_among xs d (λ k l. elim (cases_lt k i) [
@@ -58,7 +60,8 @@ found xs d r up h = by_case r (searched xs d r h (in_order xs (later xs up)))
     ]))
 
 -- what the walk over the neighbours answers
-pub rising_answer : (xs : List ℕ) (r : Bool) → IsAllAdjacentAnswer (λ x y b. b ≡ ltb x y) xs r → (IsTrue r → IsStrictlyIncreasing xs) × (IsStrictlyIncreasing xs → IsTrue r)
+pub rising_answer : (xs : List ℕ) (r : Bool) → IsAllAdjacentAnswer (λ x y b. b ≡ ltb x y) xs r
+    → (IsTrue r → IsStrictlyIncreasing xs) × (IsStrictlyIncreasing xs → IsTrue r)
 rising_answer xs true h = (λ t k l. below (get_or xs k 0) (get_or xs (k + 1) 0) (sym (h k 0 l)), λ up. refl)
   where
     below : (a b : ℕ) → ltb a b ≡ true → a < b

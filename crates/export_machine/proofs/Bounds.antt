@@ -1,5 +1,6 @@
 -- Counts that every event keeps within the count of events.
-use Rattle.std.proofs.Common.{◌≡◌, ℕ, zero, suc, ◌+◌, ◌<◌, ◌≤◌, Bool, true, false, ◌&&◌, cond, Vec, List, [], ◌∷◌, ◌++◌, length, get_or, set, map, Option, Some, None, Ok, Err, Result, refl, sym, ap, ◌∙◌, subst, inl, inr, arith}
+use Rattle.std.proofs.Common.{◌≡◌, ℕ, zero, suc, ◌+◌, ◌<◌, ◌≤◌, Bool, true, false, ◌&&◌, cond, Vec, List, [], ◌∷◌, ◌++◌, length}
+use Rattle.std.proofs.Common.{get_or, set, map, Option, Some, None, Ok, Err, Result, refl, sym, ap, ◌∙◌, subst, inl, inr, arith}
 use Rattle.std.proofs.lemmas.Bool.{and_parts, cases_eq}
 use Rattle.std.specs.List.{slice_get}
 use Rattle.std.specs.Result.{OnOk}
@@ -16,13 +17,16 @@ use Rattle.export_protocol.specs.Cluster.{World}
 use Rattle.mds_types.specs.declared.order.Order.{Order}
 use Rattle.export_protocol.specs.Authority.{no_order, order_in, exporter_of, importer_of, is_stopped, authority, open_export}
 use Rattle.export_protocol.specs.declared.moves.Transition.{Transition}
-use Rattle.export_protocol.specs.Step.{Outcome, refusal, happens, step, counted, comes, delivered, ignored, receiver, repeats, journaled_by, restarts, changed, move, moved, acts, about, exporter_moves, importer_moves, notes, replies}
+use Rattle.export_protocol.specs.Step.{Outcome, refusal, happens, step, counted, comes, delivered, ignored, receiver, repeats, journaled_by}
+use Rattle.export_protocol.specs.Step.{restarts, changed, move, moved, acts, about, exporter_moves, importer_moves, notes, replies}
 use Rattle.export_protocol.specs.declared.event.Event.{Event}
 use Rattle.export_protocol.specs.declared.event.Event.TheVariants.{Begin, End, Start, Deliver, Froze, Notify, Abort, Stop, Restart, Ask}
 use Rattle.export_protocol.specs.View.{IsReached, IsAnswer}
 use Rattle.export_machine.specs.Room.{IsRefusal, IsAsRoomy, KeepsRoom}
 use Rattle.export_machine.specs.Columns.{has_spare}
-use Rattle.export_machine.specs.Kept.{State, world_of, indexes_of, IsKept, IsIndexed, has_room, has_entry_places, has_list_places, places_of, has_dir_places, has_export_places, is_spare, entered_at, is_ready, is_ready_entry, is_ready_list, state_of}
+use Rattle.export_machine.specs.Kept.{State, world_of, indexes_of, IsKept, IsIndexed, has_room}
+use Rattle.export_machine.specs.Kept.{has_entry_places, has_list_places, places_of, has_dir_places, has_export_places, is_spare}
+use Rattle.export_machine.specs.Kept.{entered_at, is_ready, is_ready_entry, is_ready_list, state_of}
 use Rattle.export_protocol.proofs.Views.{push_same, push_other, length_push, map_at_length}
 use Rattle.export_protocol.proofs.Frame.{Framed, delivered_frame, happens_fixed}
 use Rattle.export_protocol.proofs.Reached.{reached_step}
@@ -82,7 +86,8 @@ pub record Bounded (w : World) : Type 0 where
   pub within : length w.parents ≤ w.limit
 
 -- orders and parents stay
-steady : (w v : World) → Bounded w → Sends w v → v.orders ≡ w.orders → length v.tickets ≤ length w.tickets + 1 → length v.parents ≡ length w.parents → v.limit ≡ w.limit → Bounded (counted v)
+steady : (w v : World) → Bounded w → Sends w v → v.orders ≡ w.orders → length v.tickets ≤ length w.tickets + 1
+    → length v.parents ≡ length w.parents → v.limit ≡ w.limit → Bounded (counted v)
 steady w v b s o t p l = record {
   distinct = λ x h. b.distinct x (ap (λ (os : List Order). repeats (order_in os x).dirs) (sym o) ∙ h);
   sent = omega (arith, s.sent, s.events, b.sent);
@@ -94,13 +99,38 @@ framed : (w v : World) → Bounded w → Sends w v → Framed w v → Bounded (c
 framed w v b s f = steady w v b s f.orders (rw f.tickets (omega arith)) (ap length f.parents) f.limit
 
 module _ (w : World) (b : Bounded w) where
-  made_bounded : (p : ℕ) → length w.parents < w.limit → (o : Option ℕ) → Bounded (counted (record (journaled_by w o (JournalEntry.Made (length w.parents))) { parents = w.parents ++ Some p ∷ []; named = w.named ++ o ∷ [] }))
-  made_bounded p l None = record { distinct = b.distinct; sent = omega (arith, b.sent); tickets = omega (arith, b.tickets); within = rw (length_push w.parents (Some p)) (omega arith) }
-  made_bounded p l (Some a) = record { distinct = b.distinct; sent = omega (arith, b.sent); tickets = omega (arith, b.tickets); within = rw (length_push w.parents (Some p)) (omega arith) }
+  made_bounded : (p : ℕ) → length w.parents < w.limit → (o : Option ℕ)
+      → Bounded (counted (record (journaled_by w o (JournalEntry.Made (length w.parents))) {
+        parents = w.parents ++ Some p ∷ [];
+        named = w.named ++ o ∷ [];
+      }))
+  made_bounded p l None = record {
+    distinct = b.distinct;
+    sent = omega (arith, b.sent);
+    tickets = omega (arith, b.tickets);
+    within = rw (length_push w.parents (Some p)) (omega arith);
+  }
+  made_bounded p l (Some a) = record {
+    distinct = b.distinct;
+    sent = omega (arith, b.sent);
+    tickets = omega (arith, b.tickets);
+    within = rw (length_push w.parents (Some p)) (omega arith);
+  }
 
-  gone_bounded : (d : ℕ) (o : Option ℕ) → Bounded (counted (record (journaled_by w o (JournalEntry.Gone d)) { parents = set w.parents d None; named = set w.named d None }))
-  gone_bounded d None = record { distinct = b.distinct; sent = omega (arith, b.sent); tickets = omega (arith, b.tickets); within = rw (length-set w.parents d None) b.within }
-  gone_bounded d (Some a) = record { distinct = b.distinct; sent = omega (arith, b.sent); tickets = omega (arith, b.tickets); within = rw (length-set w.parents d None) b.within }
+  gone_bounded : (d : ℕ) (o : Option ℕ)
+      → Bounded (counted (record (journaled_by w o (JournalEntry.Gone d)) { parents = set w.parents d None; named = set w.named d None }))
+  gone_bounded d None = record {
+    distinct = b.distinct;
+    sent = omega (arith, b.sent);
+    tickets = omega (arith, b.tickets);
+    within = rw (length-set w.parents d None) b.within;
+  }
+  gone_bounded d (Some a) = record {
+    distinct = b.distinct;
+    sent = omega (arith, b.sent);
+    tickets = omega (arith, b.tickets);
+    within = rw (length-set w.parents d None) b.within;
+  }
 
   restart_bounded : (r : ℕ) (c : Bool) → Bounded (counted (cond c (changed (restarts w r)) (ignored w)).world)
   restart_bounded r true = steady w (restarts w r) b (none w _ refl refl) refl (omega arith) refl refl
@@ -110,7 +140,8 @@ module _ (w : World) (b : Bounded w) where
   unfolding happens
   happens_bounded (Event.Made p) h = made_bounded p (made_few w p h) (authority w p)
   happens_bounded (Event.Gone d) h = gone_bounded d (authority w d)
-  happens_bounded (Begin r d) h = steady w _ b (none w _ refl refl) refl (rw (length_push w.tickets (Some (record { rank = r; dir = d }))) (omega arith)) refl refl
+  happens_bounded (Begin r d) h = steady w _ b (none w _ refl refl) refl
+      (rw (length_push w.tickets (Some (record { rank = r; dir = d }))) (omega arith)) refl refl
   happens_bounded (End t) h = steady w _ b (none w _ refl refl) refl (rw (length-set w.tickets t None) (omega arith)) refl refl
   happens_bounded (Start f t ds) h = record {
     distinct = λ x k. elim (cases_eq x (length w.orders)) [
@@ -123,7 +154,8 @@ module _ (w : World) (b : Bounded w) where
   }
     where
       new : repeats (get_or (w.orders ++ record { from = f; to = t; dirs = ds } ∷ []) (length w.orders) no_order).dirs ≡ true → ⊥
-      new k = differ (sym (ap (λ (o : Order). repeats o.dirs) (push_same w.orders (record { from = f; to = t; dirs = ds }) no_order)) ∙ k) (start_distinct w f t ds h)
+      new k = differ (sym (ap (λ (o : Order). repeats o.dirs) (push_same w.orders (record { from = f; to = t; dirs = ds }) no_order)) ∙ k)
+          (start_distinct w f t ds h)
         where
           differ : repeats ds ≡ true → repeats ds ≡ false → ⊥
           differ i j = cc
@@ -268,7 +300,8 @@ places_are [] (suc r) = refl
 places_are (j ∷ js) zero = refl
 places_are (j ∷ js) (suc r) = places_are js r
 
-both_places : {S T A : Type 0} (js : List (Vec S A)) (ls : List (Vec T A)) (r : ℕ) → get_or (places_of js ls) r true ≡ (is_spare (slice_get js r) && is_spare (slice_get ls r))
+both_places : {S T A : Type 0} (js : List (Vec S A)) (ls : List (Vec T A)) (r : ℕ)
+    → get_or (places_of js ls) r true ≡ (is_spare (slice_get js r) && is_spare (slice_get ls r))
 both_places [] ls r = places_are ls r
 both_places (j ∷ js) [] zero = refl
 both_places {T = T} (j ∷ js) [] (suc r) = both_places {T = T} js [] r
@@ -277,7 +310,8 @@ both_places (j ∷ js) (l ∷ ls) (suc r) = both_places js ls r
 
 pub ready_is : (r : Records) (e : Event) → is_ready (state_of r) e ≡ has_room r e
 unfolding is_ready has_room
-ready_is r e = both (is_ready_entry (state_of r).room (entered_at (world_of r) e)) (has_entry_places r (entered_at (world_of r) e)) (is_ready_list (state_of r).room e) (has_list_places r e) (entry (entered_at (world_of r) e)) (lists e)
+ready_is r e = both (is_ready_entry (state_of r).room (entered_at (world_of r) e)) (has_entry_places r (entered_at (world_of r) e))
+    (is_ready_list (state_of r).room e) (has_list_places r e) (entry (entered_at (world_of r) e)) (lists e)
   where
     both : (a b c d : Bool) → a ≡ b → c ≡ d → (a && c) ≡ (b && d)
     both a b c d h k = rw (h, k) refl

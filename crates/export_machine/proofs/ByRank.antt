@@ -1,5 +1,6 @@
 -- How the tickets that are kept by rank follow requests that begin and end.
-use Rattle.std.proofs.Common.{◌≡◌, ◌≢◌, ℕ, zero, suc, ◌+◌, ◌<◌, ◌≤◌, Bool, true, false, ◌||◌, eqb, cond, List, [], ◌∷◌, ◌++◌, length, get_or, set, take, map, Vec, Global, Option, Some, None, refl, sym, ap, ◌∙◌, subst, inl, inr, arith}
+use Rattle.std.proofs.Common.{◌≡◌, ◌≢◌, ℕ, zero, suc, ◌+◌, ◌<◌, ◌≤◌, Bool, true, false, ◌||◌, eqb, cond, List, [], ◌∷◌, ◌++◌}
+use Rattle.std.proofs.Common.{length, get_or, set, take, map, Vec, Global, Option, Some, None, refl, sym, ap, ◌∙◌, subst, inl, inr, arith}
 use Rattle.std.specs.Prelude.{filter, is_some, replicate}
 use Rattle.std.proofs.lemmas.Bool.{cases_lt, cases_eq, eqb-true, or_left, or_right, or_cases}
 use Rattle.std.proofs.lemmas.List.{get_or-set_same, get_or-set_other, get_or_past, length-set, take_all, map-set, get_or-map}
@@ -30,9 +31,11 @@ begin_filed ranks ts ls q by near = record { filed = filed; ranked = length-set 
     here = get_or-set_same ls q.rank (get_or ls q.rank [] ++ length ts ∷ []) [] near
 
     newest : is_among (get_or ls q.rank [] ++ length ts ∷ []) (length ts) ≡ true
-    newest = among_push (get_or ls q.rank []) (length ts) (length ts) ∙ or_right (is_among (get_or ls q.rank []) (length ts)) (eqb (length ts) (length ts)) (itself (length ts))
+    newest = among_push (get_or ls q.rank []) (length ts) (length ts)
+        ∙ or_right (is_among (get_or ls q.rank []) (length ts)) (eqb (length ts) (length ts)) (itself (length ts))
 
-    filed : (t : ℕ) (p : Request) → get_or (ts ++ Some q ∷ []) t None ≡ Some p → is_among (get_or (set ls q.rank (get_or ls q.rank [] ++ length ts ∷ [])) p.rank []) t ≡ true
+    filed : (t : ℕ) (p : Request) → get_or (ts ++ Some q ∷ []) t None ≡ Some p
+        → is_among (get_or (set ls q.rank (get_or ls q.rank [] ++ length ts ∷ [])) p.rank []) t ≡ true
     filed t p h = elim (cases_eq t (length ts)) [
       | inl e ↦
           (let same : q ≡ p = same_request q p (sym (push_same ts (Some q) None) ∙ (ap (λ k. get_or (ts ++ Some q ∷ []) k None) (sym e) ∙ h)) in
@@ -77,12 +80,16 @@ among_filter test (x ∷ xs) t h k = elim (or_cases (eqb x t) (is_among xs t) h)
 
 pub kept_filed : (ranks : ℕ) (ts : List (Option Request)) (ls : List (List ℕ)) (rank : ℕ) → AreByRank ranks ts ls → rank < length ls →
     AreByRank ranks ts (set ls rank (filter (λ t. is_some (get_or ts t None)) (get_or ls rank [])))
-kept_filed ranks ts ls rank by near = record { filed = filed; ranked = length-set ls rank (filter (λ t. is_some (get_or ts t None)) (get_or ls rank [])) ∙ by.ranked }
+kept_filed ranks ts ls rank by near = record {
+  filed = filed;
+  ranked = length-set ls rank (filter (λ t. is_some (get_or ts t None)) (get_or ls rank [])) ∙ by.ranked;
+}
   where
     kept : List ℕ
     kept = filter (λ t. is_some (get_or ts t None)) (get_or ls rank [])
 
-    filed : (t : ℕ) (p : Request) → get_or ts t None ≡ Some p → is_among (get_or (set ls rank (filter (λ k. is_some (get_or ts k None)) (get_or ls rank []))) p.rank []) t ≡ true
+    filed : (t : ℕ) (p : Request) → get_or ts t None ≡ Some p
+        → is_among (get_or (set ls rank (filter (λ k. is_some (get_or ts k None)) (get_or ls rank []))) p.rank []) t ≡ true
     filed t p h = elim (cases_eq p.rank rank) [
       | inl s ↦
           (let old : is_among (get_or ls rank []) t ≡ true = ap (λ r. is_among (get_or ls r []) t) (sym s) ∙ by.filed t p h in
@@ -94,7 +101,8 @@ kept_filed ranks ts ls rank by near = record { filed = filed; ranked = length-se
 
 -- a rank stops
 
-ended : (rank : ℕ) (ts : List (Option Request)) (t : ℕ) (p : Request) → get_or (map_at (λ k request. ends_at rank request) ts) t None ≡ Some p → (get_or ts t None ≡ Some p) × (p.rank ≢ rank)
+ended : (rank : ℕ) (ts : List (Option Request)) (t : ℕ) (p : Request)
+    → get_or (map_at (λ k request. ends_at rank request) ts) t None ≡ Some p → (get_or ts t None ≡ Some p) × (p.rank ≢ rank)
 ended rank ts t p h = elim (cases_lt t (length ts)) [
   | inl l ↦ ended_elsewhere rank (get_or ts t None) p (sym (map_at_get (λ k request. ends_at rank request) ts t None None l) ∙ h)
   | inr l ↦ absurd (none_runs p (sym (map_at_past (λ k request. ends_at rank request) ts t None l) ∙ h))
@@ -121,12 +129,15 @@ abbrev pub ended_among : ℕ → List ℕ → List (Option Request) → List (Op
 ended_among rank tickets ts = map_at (λ t request. cond (is_among tickets t) (ends_at rank request) request) ts
 
 set_end : (rank : ℕ) (test : ℕ → Bool) (ts : List (Option Request)) (d : ℕ) →
-    set (map_at (λ k request. cond (test k) (ends_at rank request) request) ts) d (ends_at rank (get_or (map_at (λ k request. cond (test k) (ends_at rank request) request) ts) d None))
+    set (map_at (λ k request. cond (test k) (ends_at rank request) request) ts) d
+    (ends_at rank (get_or (map_at (λ k request. cond (test k) (ends_at rank request) request) ts) d None))
     ≡ map_at (λ k request. cond (test k || eqb d k) (ends_at rank request) request) ts
 set_end rank test [] zero = refl
 set_end rank test [] (suc d) = refl
 set_end rank test (x ∷ xs) zero =
-    rw (here (test 0) x) (ap (λ ys. cond (test 0 || eqb 0 0) (ends_at rank x) x ∷ ys) (map_at_same (λ k request. cond (test (suc k)) (ends_at rank request) request) (λ k request. cond (test (suc k) || eqb 0 (suc k)) (ends_at rank request) request)
+    rw (here (test 0) x) (ap (λ ys. cond (test 0 || eqb 0 0) (ends_at rank x) x ∷ ys)
+    (map_at_same (λ k request. cond (test (suc k)) (ends_at rank request) request)
+    (λ k request. cond (test (suc k) || eqb 0 (suc k)) (ends_at rank request) request)
     (λ k a. ap (λ b. cond b (ends_at rank a) a) (there (test (suc k)) k)) xs))
   where
     here : (b : Bool) (o : Option Request) → ends_at rank (cond b (ends_at rank o) o) ≡ cond (b || eqb 0 0) (ends_at rank o) o
@@ -137,7 +148,8 @@ set_end rank test (x ∷ xs) zero =
     there b k = grind arith
 set_end rank test (x ∷ xs) (suc d) =
     rw (← first (test 0)) (ap (λ ys. cond (test 0) (ends_at rank x) x ∷ ys) (set_end rank (λ k. test (suc k)) xs d
-    ∙ map_at_same (λ k request. cond (test (suc k) || eqb d k) (ends_at rank request) request) (λ k request. cond (test (suc k) || eqb (suc d) (suc k)) (ends_at rank request) request)
+    ∙ map_at_same (λ k request. cond (test (suc k) || eqb d k) (ends_at rank request) request)
+    (λ k request. cond (test (suc k) || eqb (suc d) (suc k)) (ends_at rank request) request)
     (λ k a. ap (λ b. cond b (ends_at rank a) a) (next (test (suc k)) k)) xs))
   where
     first : (b : Bool) → b ≡ (b || eqb (suc d) 0)
@@ -152,12 +164,14 @@ set_end rank test (x ∷ xs) (suc d) =
 pub ends_none : (rank : ℕ) (ts : List (Option Request)) → ts ≡ ended_among rank [] ts
 ends_none rank ts = sym (unchanged ts)
 
-pub ends_next : (rank : ℕ) (tickets : List ℕ) (i t : ℕ) (ts old : List (Option Request)) → i < length tickets → t ≡ get_or tickets i t → ts ≡ ended_among rank (take i tickets) old →
+pub ends_next : (rank : ℕ) (tickets : List ℕ) (i t : ℕ) (ts old : List (Option Request)) → i < length tickets → t ≡ get_or tickets i t
+    → ts ≡ ended_among rank (take i tickets) old →
     set ts t (ends_at rank (get_or ts t None)) ≡ ended_among rank (take (i + 1) tickets) old
 ends_next rank tickets i t ts old l e s =
     ap (λ us. set us t (ends_at rank (get_or us t None))) s
     ∙ (set_end rank (is_among (take i tickets)) old t
-    ∙ map_at_same _ _ (λ k a. ap (λ b. cond b (ends_at rank a) a) (sym (ap (λ zs. is_among zs k) (take_next tickets i t l e) ∙ among_push (take i tickets) t k))) old)
+    ∙ map_at_same _ _ (λ k a. ap (λ b. cond b (ends_at rank a) a)
+    (sym (ap (λ zs. is_among zs k) (take_next tickets i t l e) ∙ among_push (take i tickets) t k))) old)
 
 -- then all requests of the rank have ended, as each of their tickets is in the list
 pub ends_all : (ranks rank : ℕ) (ts : List (Option Request)) (ls : List (List ℕ)) (i : ℕ) → AreByRank ranks ts ls → length (get_or ls rank []) ≤ i →
@@ -175,14 +189,16 @@ ends_all ranks rank ts ls i by past =
     each t (Some q) h = go (eqb q.rank rank) refl
       where
         go : (b : Bool) → eqb q.rank rank ≡ b → cond (is_among (get_or ls rank []) t) (cond b None (Some q)) (Some q) ≡ cond b None (Some q)
-        go true e = (let i : is_among (get_or ls rank []) t ≡ true = ap (λ r. is_among (get_or ls r []) t) (sym (eqb-true q.rank rank e)) ∙ by.filed t q h in rw i refl)
+        go true e = (let i : is_among (get_or ls rank []) t ≡ true = ap (λ r. is_among (get_or ls r []) t) (sym (eqb-true q.rank rank e))
+            ∙ by.filed t q h in rw i refl)
         go false e = either (is_among (get_or ls rank []) t)
           where
             either : (b : Bool) → cond b (Some q) (Some q) ≡ Some q
             either true = refl
             either false = refl
 
-pub ended_was : (rank : ℕ) (tickets : List ℕ) (ts : List (Option Request)) (t : ℕ) (q : Request) → get_or (ended_among rank tickets ts) t None ≡ Some q → get_or ts t None ≡ Some q
+pub ended_was : (rank : ℕ) (tickets : List ℕ) (ts : List (Option Request)) (t : ℕ) (q : Request)
+    → get_or (ended_among rank tickets ts) t None ≡ Some q → get_or ts t None ≡ Some q
 ended_was rank tickets ts t q h = elim (cases_lt t (length ts)) [
   | inl l ↦ go (is_among tickets t) (sym (map_at_get (λ k request. cond (is_among tickets k) (ends_at rank request) request) ts t None None l) ∙ h)
   | inr l ↦ absurd (none_runs q (sym (map_at_past (λ k request. cond (is_among tickets k) (ends_at rank request) request) ts t None l) ∙ h))
@@ -193,7 +209,8 @@ ended_was rank tickets ts t q h = elim (cases_lt t (length ts)) [
     go false k = k
 
 -- a running request's rank has a list
-pub filed_rank : (ranks : ℕ) (ts : List (Option Request)) (ls : List (List ℕ)) → AreByRank ranks ts ls → (t : ℕ) (q : Request) → get_or ts t None ≡ Some q → q.rank < length ls
+pub filed_rank : (ranks : ℕ) (ts : List (Option Request)) (ls : List (List ℕ)) → AreByRank ranks ts ls → (t : ℕ) (q : Request)
+    → get_or ts t None ≡ Some q → q.rank < length ls
 filed_rank ranks ts ls by t q h = elim (cases_lt q.rank (length ls)) [
   | inl l ↦ l
   | inr l ↦ absurd (differ (sym (ap (λ l. is_among l t) (get_or_past ls q.rank [] l)) ∙ by.filed t q h))
@@ -207,10 +224,12 @@ filed_rank ranks ts ls by t q h = elim (cases_lt q.rank (length ls)) [
 abbrev items_of : Vec ℕ Global → List ℕ
 items_of list = list.items
 
-pub list_here : (js : List (Vec ℕ Global)) (k n : ℕ) (v : Vec ℕ Global) → k ≡ n → n < length js → v ≡ get_or js k v → get_or (map (λ l. l.items) js) n [] ≡ v.items
+pub list_here : (js : List (Vec ℕ Global)) (k n : ℕ) (v : Vec ℕ Global) → k ≡ n → n < length js → v ≡ get_or js k v
+    → get_or (map (λ l. l.items) js) n [] ≡ v.items
 list_here js k n v same near e = get_or-map items_of js n v [] near ∙ (ap (λ m. items_of (get_or js m v)) (sym same) ∙ ap items_of (sym e))
 
-pub list_set : (f : List ℕ → List ℕ) (js : List (Vec ℕ Global)) (k n : ℕ) (v d : Vec ℕ Global) → k ≡ n → n < length js → d ≡ get_or js k d → v.items ≡ f d.items →
+pub list_set : (f : List ℕ → List ℕ) (js : List (Vec ℕ Global)) (k n : ℕ) (v d : Vec ℕ Global) → k ≡ n → n < length js → d ≡ get_or js k d
+    → v.items ≡ f d.items →
     map (λ l. l.items) (set js k v) ≡ set (map (λ l. l.items) js) n (f (get_or (map (λ l. l.items) js) n []))
 list_set f js k n v d same near e h =
     map-set items_of js k v

@@ -12,7 +12,8 @@ set_same f [] (suc i) row h = refl
 set_same f (r ∷ rows) zero row h = ap (λ a. f a ∷ map f rows) h
 set_same f (r ∷ rows) (suc i) row h = ap (λ xs. f r ∷ xs) (set_same f rows i row h)
 
-module _ {A : Type 0} (v : Vec DirRow A) (t : DirColumns) (is : columns_of v ≡ t) (i d : ℕ) (number : i ≡ d) (row : DirRow) (here : row ≡ get_or v.items i row) where
+module _ {A : Type 0} (v : Vec DirRow A) (t : DirColumns) (is : columns_of v ≡ t) (i d : ℕ) (number : i ≡ d) (row : DirRow)
+    (here : row ≡ get_or v.items i row) where
   own : {B : Type 0} (f : DirRow → B) → set (map f v.items) i (f row) ≡ map f v.items
   own f = set_same f v.items i row here
 
@@ -25,7 +26,14 @@ module _ {A : Type 0} (v : Vec DirRow A) (t : DirColumns) (is : columns_of v ≡
     children = set (columns_of v).children i new.children;
     spare = (columns_of v).spare;
   }
-  written new = rw (map-set (λ r. r.parent) v.items i new, map-set (λ r. r.named) v.items i new, map-set (λ r. r.owner) v.items i new, map-set (λ r. r.opened) v.items i new, map-set (λ r. r.running) v.items i new, map-set (λ r. r.children) v.items i new) refl
+  written new = rw (
+    map-set (λ r. r.parent) v.items i new,
+    map-set (λ r. r.named) v.items i new,
+    map-set (λ r. r.owner) v.items i new,
+    map-set (λ r. r.opened) v.items i new,
+    map-set (λ r. r.running) v.items i new,
+    map-set (λ r. r.children) v.items i new,
+  ) refl
 
   pub named_set : (o : Option ℕ) → columns_of (with_item v i (record row { named = o })) ≡ record t { named = set t.named d o }
   named_set o = written (record row { named = o })
@@ -52,7 +60,8 @@ module _ {A : Type 0} (v : Vec DirRow A) (t : DirColumns) (is : columns_of v ≡
       ∙ (rw (own (λ r. r.parent), own (λ r. r.named), own (λ r. r.owner), own (λ r. r.opened), own (λ r. r.running)) refl
       ∙ (ap (λ (u : DirColumns). record u { children = set u.children i n }) is ∙ ap (λ k. record t { children = set t.children k n }) number))
 
-  pub gone : columns_of (with_item v i (record row { parent = None; named = None; owner = None })) ≡ record t { parents = set t.parents d None; named = set t.named d None; owners = set t.owners d None }
+  pub gone : columns_of (with_item v i (record row { parent = None; named = None; owner = None }))
+      ≡ record t { parents = set t.parents d None; named = set t.named d None; owners = set t.owners d None }
   gone = written (record row { parent = None; named = None; owner = None })
       ∙ (rw (own (λ r. r.opened), own (λ r. r.running), own (λ r. r.children)) refl
       ∙ (ap (λ (u : DirColumns). record u { parents = set u.parents i None; named = set u.named i None; owners = set u.owners i None }) is
@@ -67,8 +76,10 @@ module _ {A : Type 0} (v : Vec DirRow A) (t : DirColumns) (is : columns_of v ≡
 
   pub running_written : (change : ℕ → ℕ) → d < length t.running →
       columns_of (with_item v i (record row { running = change row.running })) ≡ record t { running = set t.running d (change (get_or t.running d 0)) }
-  running_written change near = running_set (change row.running) ∙ ap (λ n. record t { running = set t.running d (change n) }) (read (λ r. r.running) (λ u. u.running) refl near)
+  running_written change near = running_set (change row.running)
+      ∙ ap (λ n. record t { running = set t.running d (change n) }) (read (λ r. r.running) (λ u. u.running) refl near)
 
   pub children_written : (change : ℕ → ℕ) → d < length t.children →
       columns_of (with_item v i (record row { children = change row.children })) ≡ record t { children = set t.children d (change (get_or t.children d 0)) }
-  children_written change near = children_set (change row.children) ∙ ap (λ n. record t { children = set t.children d (change n) }) (read (λ r. r.children) (λ u. u.children) refl near)
+  children_written change near = children_set (change row.children)
+      ∙ ap (λ n. record t { children = set t.children d (change n) }) (read (λ r. r.children) (λ u. u.children) refl near)

@@ -1,5 +1,6 @@
 -- Lists of directories: repetitions, counts and the least faulty one.
-use Rattle.std.proofs.Common.{◌≡◌, ◌≢◌, ℕ, zero, suc, ◌+◌, ◌<◌, ◌≤◌, Bool, true, false, ◌&&◌, ◌||◌, not, eqb, ltb, cond, List, [], ◌∷◌, ◌++◌, length, get_or, set, take, Option, Some, None, refl, sym, ap, ◌∙◌, inl, inr, ◌⊎◌, arith}
+use Rattle.std.proofs.Common.{◌≡◌, ◌≢◌, ℕ, zero, suc, ◌+◌, ◌<◌, ◌≤◌, Bool, true, false, ◌&&◌, ◌||◌, not, eqb, ltb, cond, List}
+use Rattle.std.proofs.Common.{[], ◌∷◌, ◌++◌, length, get_or, set, take, Option, Some, None, refl, sym, ap, ◌∙◌, inl, inr, ◌⊎◌, arith}
 use Rattle.std.specs.List.{list_all}
 use Rattle.std.specs.Prelude.{count_by}
 use Rattle.std.proofs.lemmas.Bool.{cases_lt, and_parts, eqb-true, or_cases, or_from, or_left, or_parts, or_right}
@@ -67,7 +68,8 @@ number_push : (xs : List ℕ) (d : ℕ) → is_among xs d ≡ false → (ts : Li
 number_push xs d h [] = refl
 number_push xs d h (t ∷ ts) =
     let a = run_apart xs d h t in
-    rw a.0 (add (runs_on xs t) (runs_on (d ∷ []) t) (number_of (runs_on (xs ++ d ∷ [])) ts) (number_of (runs_on xs) ts) (number_of (runs_on (d ∷ [])) ts) a.1 (number_push xs d h ts))
+    rw a.0 (add (runs_on xs t) (runs_on (d ∷ []) t) (number_of (runs_on (xs ++ d ∷ [])) ts) (number_of (runs_on xs) ts)
+    (number_of (runs_on (d ∷ [])) ts) a.1 (number_push xs d h ts))
   where
     add : (a b : Bool) (l m n : ℕ) → (a && b) ≡ false → l ≡ m + n → cond (a || b) (1 + l) l ≡ cond a (1 + m) m + cond b (1 + n) n
     add true true l m n i e = absurd (cc)
@@ -76,7 +78,11 @@ number_push xs d h (t ∷ ts) =
     add false false l m n i e = omega arith
 
 pub running_push : (w : World) (xs : List ℕ) (d : ℕ) → is_among xs d ≡ false → running_on w (xs ++ d ∷ []) ≡ running_on w xs + running_on w (d ∷ [])
-running_push w xs d h = rw (counted (runs_on (xs ++ d ∷ [])) w.tickets, counted (runs_on xs) w.tickets, counted (runs_on (d ∷ [])) w.tickets) (number_push xs d h w.tickets)
+running_push w xs d h = rw (
+  counted (runs_on (xs ++ d ∷ [])) w.tickets,
+  counted (runs_on xs) w.tickets,
+  counted (runs_on (d ∷ [])) w.tickets,
+) (number_push xs d h w.tickets)
 
 pub running_none : (w : World) → running_on w [] ≡ 0
 running_none w = counted (runs_on []) w.tickets ∙ none w.tickets
@@ -103,7 +109,8 @@ any_counts test xs b e = count_any test xs ∙ e
 
 pub data IsLeast (w : World) (from : ℕ) (dirs : List ℕ) : Option ℕ → Type 0 where
   free : ((d : ℕ) → is_among dirs d ≡ true → cannot_leave w from d ≡ None) → IsLeast w from dirs None
-  faulty : {l : ℕ} → is_among dirs l ≡ true → cannot_leave w from l ≢ None → ((d : ℕ) → is_among dirs d ≡ true → cannot_leave w from d ≢ None → l ≤ d) → IsLeast w from dirs (Some l)
+  faulty : {l : ℕ} → is_among dirs l ≡ true → cannot_leave w from l ≢ None
+      → ((d : ℕ) → is_among dirs d ≡ true → cannot_leave w from d ≢ None → l ≤ d) → IsLeast w from dirs (Some l)
 
 pub least_start : (w : World) (from : ℕ) → IsLeast w from [] None
 least_start w from = free (λ d h. absurd (cc))
@@ -121,12 +128,14 @@ push_old xs d e h = among_push xs d e ∙ or_left (is_among xs e) (eqb d e) h
 pub push_new : (xs : List ℕ) (d : ℕ) → is_among (xs ++ d ∷ []) d ≡ true
 push_new xs d = among_push xs d d ∙ or_right (is_among xs d) (eqb d d) (itself d)
 
-pub least_free : (w : World) (from : ℕ) (xs : List ℕ) (d : ℕ) (o : Option ℕ) → IsLeast w from xs o → cannot_leave w from d ≡ None → IsLeast w from (xs ++ d ∷ []) o
+pub least_free : (w : World) (from : ℕ) (xs : List ℕ) (d : ℕ) (o : Option ℕ) → IsLeast w from xs o → cannot_leave w from d ≡ None
+    → IsLeast w from (xs ++ d ∷ []) o
 least_free w from xs d None (free f) h = free (λ e k. elim (pushed xs d e k) [ inl a ↦ f e a | inr s ↦ rw s h ])
 least_free w from xs d (Some l) (faulty a n f) h =
     faulty (push_old xs d l a) n (λ e k m. elim (pushed xs d e k) [ inl b ↦ f e b m | inr s ↦ absurd (m (rw s h)) ])
 
-pub least_faulty : (w : World) (from : ℕ) (xs : List ℕ) (d : ℕ) (o : Option ℕ) → IsLeast w from xs o → cannot_leave w from d ≢ None → IsLeast w from (xs ++ d ∷ []) (Some (lesser o d))
+pub least_faulty : (w : World) (from : ℕ) (xs : List ℕ) (d : ℕ) (o : Option ℕ) → IsLeast w from xs o → cannot_leave w from d ≢ None
+    → IsLeast w from (xs ++ d ∷ []) (Some (lesser o d))
 least_faulty w from xs d None (free f) h = faulty (push_new xs d) h (λ e k m. elim (pushed xs d e k) [ inl a ↦ absurd (m (f e a)) | inr s ↦ omega arith ])
 least_faulty w from xs d (Some l) (faulty a n f) h = go (ltb l d) refl
   where
@@ -138,7 +147,8 @@ least_faulty w from xs d (Some l) (faulty a n f) h = go (ltb l d) refl
 
     go : (b : Bool) → ltb l d ≡ b → IsLeast w from (xs ++ d ∷ []) (Some (cond b l d))
     go true e = (let k : l < d = below e in faulty (push_old xs d l a) n (λ c i m. elim (pushed xs d c i) [ inl j ↦ f c j m | inr s ↦ omega arith ]))
-    go false e = (let k : d ≤ l = above e in faulty (push_new xs d) h (λ c i m. elim (pushed xs d c i) [ inl j ↦ (let q : l ≤ c = f c j m in omega arith) | inr s ↦ omega arith ]))
+    go false e = (let k : d ≤ l = above e in faulty (push_new xs d) h
+        (λ c i m. elim (pushed xs d c i) [ inl j ↦ (let q : l ≤ c = f c j m in omega arith) | inr s ↦ omega arith ]))
 
 some_else : {A : Type 0} (a b : Option A) → a ≢ None → or_else a b ≡ a
 some_else None b h = absurd (h refl)
@@ -168,13 +178,15 @@ among_present w (c ∷ cs) h d i = elim (or_cases (eqb c d) (is_among cs d) i) [
   | inr j ↦ among_present w cs (and_parts (is_present w c) (list_all (is_present w) cs) h).1 d j
 ]
 
-pub least_is : (w : World) (from : ℕ) (dirs : List ℕ) (l : ℕ) → list_all (is_present w) dirs ≡ true → IsLeast w from dirs (Some l) → least_fault w from dirs (length w.parents) ≡ cannot_leave w from l
+pub least_is : (w : World) (from : ℕ) (dirs : List ℕ) (l : ℕ) → list_all (is_present w) dirs ≡ true → IsLeast w from dirs (Some l)
+    → least_fault w from dirs (length w.parents) ≡ cannot_leave w from l
 least_is w from dirs l p (faulty a k f) = the_fault w from dirs l (length w.parents) (among_present w dirs p l a) a k f
 
 pub least_none : (w : World) (from : ℕ) (dirs : List ℕ) → IsLeast w from dirs None → least_fault w from dirs (length w.parents) ≡ None
 least_none w from dirs (free f) = no_fault w from dirs (length w.parents) (λ d l i. f d i)
 
-pub running_next : (w : World) (xs : List ℕ) (i d n r : ℕ) → i < length xs → d ≡ get_or xs i d → repeats xs ≡ false → n ≡ running_on w (take i xs) → r ≡ running_on w (d ∷ []) →
+pub running_next : (w : World) (xs : List ℕ) (i d n r : ℕ) → i < length xs → d ≡ get_or xs i d → repeats xs ≡ false
+    → n ≡ running_on w (take i xs) → r ≡ running_on w (d ∷ []) →
     n + r ≡ running_on w (take (i + 1) xs)
 running_next w xs i d n r h e k s t =
     let a : is_among (take i xs) d ≡ false = ap (is_among (take i xs)) e ∙ not_before xs i d h k in
@@ -218,7 +230,10 @@ abbrev pub runs_here : ℕ → ℕ → ℕ
 runs_here d e = cond (eqb d e || false) 1 0
 
 pub running_begun : (w : World) (q : Request) (e : ℕ) → count_by (runs_on (e ∷ [])) (w.tickets ++ Some q ∷ []) ≡ running_on w (e ∷ []) + runs_here e q.dir
-running_begun w q e = rw (counted (runs_on (e ∷ [])) (w.tickets ++ Some q ∷ []), counted (runs_on (e ∷ [])) w.tickets) (number_append (runs_on (e ∷ [])) w.tickets (Some q))
+running_begun w q e = rw (counted (runs_on (e ∷ [])) (w.tickets ++ Some q ∷ []), counted (runs_on (e ∷ [])) w.tickets)
+    (number_append (runs_on (e ∷ [])) w.tickets (Some q))
 
-pub running_ended : (w : World) (t : ℕ) (q : Request) (e : ℕ) → get_or w.tickets t None ≡ Some q → count_by (runs_on (e ∷ [])) (set w.tickets t None) + runs_here e q.dir ≡ running_on w (e ∷ [])
-running_ended w t q e h = rw (counted (runs_on (e ∷ [])) (set w.tickets t None), counted (runs_on (e ∷ [])) w.tickets) (number_ended (runs_on (e ∷ [])) w.tickets t q refl h)
+pub running_ended : (w : World) (t : ℕ) (q : Request) (e : ℕ) → get_or w.tickets t None ≡ Some q
+    → count_by (runs_on (e ∷ [])) (set w.tickets t None) + runs_here e q.dir ≡ running_on w (e ∷ [])
+running_ended w t q e h = rw (counted (runs_on (e ∷ [])) (set w.tickets t None), counted (runs_on (e ∷ [])) w.tickets)
+    (number_ended (runs_on (e ∷ [])) w.tickets t q refl h)

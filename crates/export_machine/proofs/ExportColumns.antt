@@ -20,15 +20,22 @@ module _ {A : Type 0} (v : Vec ExportRow A) (t : ExportColumns) (is : export_col
       dropped = set (export_columns v).dropped i new.dropped;
       spare = (export_columns v).spare;
     }
-    written new = rw (map-set (λ r. r.order) v.items i new, map-set (λ r. r.exporter) v.items i new, map-set (λ r. r.importer) v.items i new, map-set (λ r. r.dropped) v.items i new) refl
+    written new = rw (
+      map-set (λ r. r.order) v.items i new,
+      map-set (λ r. r.exporter) v.items i new,
+      map-set (λ r. r.importer) v.items i new,
+      map-set (λ r. r.dropped) v.items i new,
+    ) refl
 
     pub exporter_set : (s : ExporterState) → export_columns (with_item v i (record row { exporter = s })) ≡ record t { exporters = set t.exporters i s }
     exporter_set s = written (record row { exporter = s })
-        ∙ (rw (own (λ r. r.order), own (λ r. r.importer), own (λ r. r.dropped)) refl ∙ ap (λ (u : ExportColumns). record u { exporters = set u.exporters i s }) is)
+        ∙ (rw (own (λ r. r.order), own (λ r. r.importer), own (λ r. r.dropped)) refl
+        ∙ ap (λ (u : ExportColumns). record u { exporters = set u.exporters i s }) is)
 
     pub importer_set : (s : ImporterState) → export_columns (with_item v i (record row { importer = s })) ≡ record t { importers = set t.importers i s }
     importer_set s = written (record row { importer = s })
-        ∙ (rw (own (λ r. r.order), own (λ r. r.exporter), own (λ r. r.dropped)) refl ∙ ap (λ (u : ExportColumns). record u { importers = set u.importers i s }) is)
+        ∙ (rw (own (λ r. r.order), own (λ r. r.exporter), own (λ r. r.dropped)) refl
+        ∙ ap (λ (u : ExportColumns). record u { importers = set u.importers i s }) is)
 
     pub dropped_set : (b : Bool) → export_columns (with_item v i (record row { dropped = b })) ≡ record t { dropped = set t.dropped i b }
     dropped_set b = written (record row { dropped = b })

@@ -1,5 +1,6 @@
 -- How the tables by directory follow a directory that is made or removed, and an export that starts.
-use Rattle.std.proofs.Common.{◌≡◌, ◌≢◌, ℕ, zero, suc, ◌+◌, ◌-◌, ◌<◌, ◌≤◌, Bool, true, false, ◌&&◌, not, eqb, cond, List, [], ◌∷◌, ◌++◌, length, get_or, set, Some, None, refl, sym, ap, ◌∙◌, inl, inr, arith}
+use Rattle.std.proofs.Common.{◌≡◌, ◌≢◌, ℕ, zero, suc, ◌+◌, ◌-◌, ◌<◌, ◌≤◌, Bool, true, false, ◌&&◌, not, eqb, cond}
+use Rattle.std.proofs.Common.{List, [], ◌∷◌, ◌++◌, length, get_or, set, Some, None, refl, sym, ap, ◌∙◌, inl, inr, arith}
 use Rattle.std.specs.Prelude.{replicate}
 use Rattle.std.proofs.lemmas.Bool.{cases_lt, cases_eq, ne_eqb}
 use Rattle.std.proofs.lemmas.List.{get_or-set_same, get_or-set_other, get_or_past, length-set}
@@ -31,7 +32,8 @@ count_push test [] a = plain (cond (test 0 a) 1 0)
   where
     plain : (n : ℕ) → n + 0 ≡ 0 + n
     plain n = omega arith
-count_push test (x ∷ xs) a = rw (count_push (λ k. test (suc k)) xs a) (assoc (cond (test 0 x) 1 0) (count_at (λ k. test (suc k)) xs) (cond (test (suc (length xs)) a) 1 0))
+count_push test (x ∷ xs) a = rw (count_push (λ k. test (suc k)) xs a)
+    (assoc (cond (test 0 x) 1 0) (count_at (λ k. test (suc k)) xs) (cond (test (suc (length xs)) a) 1 0))
   where
     assoc : (l m n : ℕ) → l + (m + n) ≡ (l + m) + n
     assoc l m n = omega arith
@@ -44,7 +46,8 @@ count_set test (x ∷ xs) zero a b d h e f = rw (e, f) (flip (count_at (λ k. te
     flip : (m n : ℕ) → (0 + m) + n ≡ n + m
     flip m n = omega arith
 count_set test (x ∷ xs) (suc k) a b d h e f =
-    more (cond (test 0 x) 1 0) (count_at (λ j. test (suc j)) (set xs k b)) (cond (test (suc k) a) 1 0) (count_at (λ j. test (suc j)) xs) (count_set (λ j. test (suc j)) xs k a b d (omega arith) e f)
+    more (cond (test 0 x) 1 0) (count_at (λ j. test (suc j)) (set xs k b)) (cond (test (suc k) a) 1 0) (count_at (λ j. test (suc j)) xs)
+    (count_set (λ j. test (suc j)) xs k a b d (omega arith) e f)
   where
     more : (l m n o : ℕ) → m + n ≡ o → (l + m) + n ≡ l + o
     more l m n o i = omega arith
@@ -89,7 +92,8 @@ module _ (w : World) (a p : ℕ) (near : a < length w.journals) where
   child_of d e l =
       rw e (count_push (is_child p) w.parents (Some p)
       ∙ plus_one (children_of w p) (cond (eqb p p && not (eqb (length w.parents) p)) 1 0)
-      (counts_one (eqb p p && not (eqb (length w.parents) p)) (both (eqb p p) (eqb (length w.parents) p) (itself p) (ne_eqb (length w.parents) p (λ k. absurd (omega arith))))))
+      (counts_one (eqb p p && not (eqb (length w.parents) p))
+      (both (eqb p p) (eqb (length w.parents) p) (itself p) (ne_eqb (length w.parents) p (λ k. absurd (omega arith))))))
 
   no_child_of : (d : ℕ) → d ≢ p → children_of grown d ≡ children_of w d
   no_child_of d n = count_push (is_child d) w.parents (Some p)
@@ -97,7 +101,16 @@ module _ (w : World) (a p : ℕ) (near : a < length w.journals) where
       (counts_none (eqb p d && not (eqb (length w.parents) d)) (unlike (eqb p d) (eqb (length w.parents) d) (ne_eqb p d (λ k. n (sym k)))))
 
   pub made_indexed : IsReached w → (i : Indexes) → IsIndexed w i → p < length w.parents →
-      IsIndexed grown (record { owners = i.owners ++ Some a ∷ []; opened = i.opened ++ None ∷ []; running = i.running ++ 0 ∷ []; children = set (i.children ++ 0 ∷ []) p (get_or (i.children ++ 0 ∷ []) p 0 + 1); marks = i.marks ++ false ∷ []; tickets_at = i.tickets_at; open_at = i.open_at; dropped = i.dropped })
+      IsIndexed grown (record {
+        owners = i.owners ++ Some a ∷ [];
+        opened = i.opened ++ None ∷ [];
+        running = i.running ++ 0 ∷ [];
+        children = set (i.children ++ 0 ∷ []) p (get_or (i.children ++ 0 ∷ []) p 0 + 1);
+        marks = i.marks ++ false ∷ [];
+        tickets_at = i.tickets_at;
+        open_at = i.open_at;
+        dropped = i.dropped;
+      })
   made_indexed reached i is l = record {
     owners = λ d. options_by w reached (get_or (i.owners ++ Some a ∷ []) d None) (authority grown d) (λ safe. owner safe d);
     opened = λ d. opened d ∙ sym (grown_open d);
@@ -107,9 +120,13 @@ module _ (w : World) (a p : ℕ) (near : a < length w.journals) where
     opened_places = longer i.opened w.parents None (Some p) is.opened_places;
     running_places = longer i.running w.parents 0 (Some p) is.running_places;
     children_places = length-set (i.children ++ 0 ∷ []) p (get_or (i.children ++ 0 ∷ []) p 0 + 1) ∙ longer i.children w.parents 0 (Some p) is.children_places;
-    unmarked = ap (λ ms. ms ++ false ∷ []) is.unmarked ∙ (replicate_push (length w.parents) false ∙ ap (λ n. replicate n false) (sym (length_push w.parents (Some p) ∙ succ (length w.parents))));
+    unmarked = ap (λ ms. ms ++ false ∷ []) is.unmarked
+        ∙ (replicate_push (length w.parents) false ∙ ap (λ n. replicate n false)
+        (sym (length_push w.parents (Some p) ∙ succ (length w.parents))));
     requests = is.requests;
-    listed = entry_listed w.ranks w.orders w.exporters w.importers w.journals i.open_at i.dropped is.listed (journals w a (JournalEntry.Made (length w.parents))).journals (entry_drops_none w a (JournalEntry.Made (length w.parents)) near (λ y. refl));
+    listed = entry_listed w.ranks w.orders w.exporters w.importers w.journals i.open_at i.dropped is.listed
+        (journals w a (JournalEntry.Made (length w.parents))).journals
+        (entry_drops_none w a (JournalEntry.Made (length w.parents)) near (λ y. refl));
     dropped_places = is.dropped_places;
   }
     where
@@ -149,8 +166,11 @@ module _ (w : World) (a p : ℕ) (near : a < length w.journals) where
       children : (d : ℕ) → get_or (set (i.children ++ 0 ∷ []) p (get_or (i.children ++ 0 ∷ []) p 0 + 1)) d 0 ≡ children_of grown d
       children d = elim (cases_eq d p) [
         | inl e ↦
-            (let s : get_or (set (i.children ++ 0 ∷ []) p (get_or (i.children ++ 0 ∷ []) p 0 + 1)) p 0 ≡ get_or (i.children ++ 0 ∷ []) p 0 + 1 = get_or-set_same (i.children ++ 0 ∷ []) p (get_or (i.children ++ 0 ∷ []) p 0 + 1) 0 place in
-            ap (λ c. get_or (set (i.children ++ 0 ∷ []) p (get_or (i.children ++ 0 ∷ []) p 0 + 1)) c 0) e ∙ (s ∙ (ap (λ m. m + 1) (pushed p) ∙ sym (child_of d e l))))
+            (let s : get_or (set (i.children ++ 0 ∷ []) p (get_or (i.children ++ 0 ∷ []) p 0 + 1)) p 0
+            ≡ get_or (i.children ++ 0 ∷ []) p 0 + 1 = get_or-set_same (i.children ++ 0 ∷ []) p (get_or (i.children ++ 0 ∷ []) p 0 + 1) 0
+            place in
+            ap (λ c. get_or (set (i.children ++ 0 ∷ []) p (get_or (i.children ++ 0 ∷ []) p 0 + 1)) c 0) e
+            ∙ (s ∙ (ap (λ m. m + 1) (pushed p) ∙ sym (child_of d e l))))
         | inr n ↦ get_or-set_other (i.children ++ 0 ∷ []) p d (get_or (i.children ++ 0 ∷ []) p 0 + 1) 0 n ∙ (pushed d ∙ sym (no_child_of d n))
       ]
 
@@ -207,7 +227,8 @@ module _ (w : World) (a d p : ℕ) (near : a < length w.journals) (there : d < l
     children_places = length-set i.children p (get_or i.children p 0 - 1) ∙ (is.children_places ∙ sym (length-set w.parents d None));
     unmarked = is.unmarked ∙ ap (λ n. replicate n false) (sym (length-set w.parents d None));
     requests = is.requests;
-    listed = entry_listed w.ranks w.orders w.exporters w.importers w.journals i.open_at i.dropped is.listed (journals w a (JournalEntry.Gone d)).journals (entry_drops_none w a (JournalEntry.Gone d) near (λ y. refl));
+    listed = entry_listed w.ranks w.orders w.exporters w.importers w.journals i.open_at i.dropped is.listed
+        (journals w a (JournalEntry.Gone d)).journals (entry_drops_none w a (JournalEntry.Gone d) near (λ y. refl));
     dropped_places = is.dropped_places;
   }
     where
@@ -219,8 +240,10 @@ module _ (w : World) (a d p : ℕ) (near : a < length w.journals) (there : d < l
 
       owner : Safe w → (e : ℕ) → get_or (set i.owners d None) e None ≡ authority shrunk e
       owner safe e = elim (cases_eq e d) [
-        | inl s ↦ rw (s, gone_authority w safe a d near (owned safe) (no_open w safe d closed) ended) (get_or-set_same i.owners d None None (rw is.owner_places there))
-        | inr n ↦ get_or-set_other i.owners d e None None n ∙ (is.owners e ∙ sym (gone_others_authority w safe a d near (owned safe) (no_open w safe d closed) ended e n))
+        | inl s ↦ rw (s, gone_authority w safe a d near (owned safe) (no_open w safe d closed) ended)
+            (get_or-set_same i.owners d None None (rw is.owner_places there))
+        | inr n ↦ get_or-set_other i.owners d e None None n
+            ∙ (is.owners e ∙ sym (gone_others_authority w safe a d near (owned safe) (no_open w safe d closed) ended e n))
       ]
 
       place : p < length i.children

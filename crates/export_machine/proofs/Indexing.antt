@@ -1,5 +1,6 @@
 -- How the tables by directory follow each event.
-use Rattle.std.proofs.Common.{◌≡◌, ◌≢◌, ℕ, ◌+◌, ◌-◌, ◌<◌, ◌≤◌, Bool, true, false, ◌&&◌, ◌||◌, not, eqb, cond, List, [], ◌∷◌, ◌++◌, length, get_or, set, Option, Some, None, refl, sym, ap, ◌∙◌, inl, inr, ◌⊎◌, arith}
+use Rattle.std.proofs.Common.{◌≡◌, ◌≢◌, ℕ, ◌+◌, ◌-◌, ◌<◌, ◌≤◌, Bool, true, false, ◌&&◌, ◌||◌, not, eqb, cond, List, []}
+use Rattle.std.proofs.Common.{◌∷◌, ◌++◌, length, get_or, set, Option, Some, None, refl, sym, ap, ◌∙◌, inl, inr, ◌⊎◌, arith}
 use Rattle.std.specs.Prelude.{count_by, replicate}
 use Rattle.std.proofs.lemmas.Bool.{cases_lt, and_parts, cases_Bool, cases_eq, eqb-true, not-true}
 use Rattle.std.proofs.lemmas.List.{get_or-set_same, get_or-set_other, get_or_past, length-set}
@@ -10,7 +11,8 @@ use Rattle.export_protocol.specs.declared.message.Message.{Message}
 use Rattle.export_protocol.specs.declared.exporter.ExporterState.TheVariants.{Freezing, Preparing, Aborted}
 use Rattle.export_protocol.specs.Cluster.{World}
 use Rattle.mds_types.specs.declared.order.Order.{Order}
-use Rattle.export_protocol.specs.Authority.{no_order, is_among, is_inside, to_of, exporter_of, importer_of, named_of, has, is_same, authority, first_below, is_open, is_aborted, open_export, runs_on}
+use Rattle.export_protocol.specs.Authority.{no_order, is_among, is_inside, to_of, exporter_of, importer_of, named_of, has}
+use Rattle.export_protocol.specs.Authority.{is_same, authority, first_below, is_open, is_aborted, open_export, runs_on}
 use Rattle.export_protocol.specs.Step.{running_on, map_at, exporter_to, journals, is_before_log, is_child}
 use Rattle.export_protocol.specs.View.{IsReached}
 use Rattle.export_machine.specs.Kept.{Indexes, IsIndexed, AreByRank, AreListed, count_at}
@@ -25,7 +27,9 @@ use Rattle.export_protocol.proofs.Found.{orders_by, first_is_none, first_same, S
 
 -- authorities and open exports stay, requests and parents too
 pub same_indexed : (w v : World) (i : Indexes) → IsIndexed w i → ((d : ℕ) → authority v d ≡ authority w d) → ((d : ℕ) → open_export v d ≡ open_export w d) →
-    v.tickets ≡ w.tickets → v.parents ≡ w.parents → v.ranks ≡ w.ranks → (ns : List Bool) → AreListed v.ranks v.orders v.exporters v.importers v.journals i.open_at ns → length ns ≡ length v.orders → IsIndexed v (record i { dropped = ns })
+    v.tickets ≡ w.tickets → v.parents ≡ w.parents → v.ranks ≡ w.ranks → (ns : List Bool)
+    → AreListed v.ranks v.orders v.exporters v.importers v.journals i.open_at ns → length ns ≡ length v.orders
+    → IsIndexed v (record i { dropped = ns })
 same_indexed w v i is a o t p n ns l c = record {
   owners = λ d. is.owners d ∙ sym (a d);
   opened = λ d. is.opened d ∙ sym (o d);
@@ -59,7 +63,8 @@ refiled w i is ls by = record {
 }
 
 -- only the exports that are listed by rank change
-pub relisted : (w : World) (i : Indexes) → IsIndexed w i → (ls : List (List ℕ)) → AreListed w.ranks w.orders w.exporters w.importers w.journals ls i.dropped → IsIndexed w (record i { open_at = ls })
+pub relisted : (w : World) (i : Indexes) → IsIndexed w i → (ls : List (List ℕ))
+    → AreListed w.ranks w.orders w.exporters w.importers w.journals ls i.dropped → IsIndexed w (record i { open_at = ls })
 relisted w i is ls l = record {
   owners = is.owners;
   opened = is.opened;
@@ -95,7 +100,8 @@ aborted_same xs x s h y = elim (cases_eq y x) [
 ]
 
 -- an exporter's state changes that isn't about an abort
-pub exporter_open : (w : World) (x : ℕ) (s : ExporterState) → is_aborted (exporter_of w x) ≡ is_aborted s → (d : ℕ) → open_export (exporter_to w x s) d ≡ open_export w d
+pub exporter_open : (w : World) (x : ℕ) (s : ExporterState) → is_aborted (exporter_of w x) ≡ is_aborted s → (d : ℕ)
+    → open_export (exporter_to w x s) d ≡ open_export w d
 exporter_open w x s h = open_stays w (exporter_to w x s) refl (λ y. rw (aborted_same w.exporters x s h y) refl)
 
 pub entry_open : (w : World) (r : ℕ) (e : JournalEntry) → r < length w.journals → ((y : ℕ) → is_same e (JournalEntry.Imported y) ≡ false) →
@@ -107,7 +113,8 @@ entry_open w r e near h = open_stays w (journals w r e) refl (λ y. go y)
 
     go : (y : ℕ) → is_open (journals w r e) y ≡ is_open w y
     go y = ap (λ b. not (is_aborted (exporter_of w y)) && not b)
-        (has_adds w r e near (to_of w y) (JournalEntry.Imported y) ∙ none (has w (to_of w y) (JournalEntry.Imported y)) (eqb (to_of w y) r) (is_same e (JournalEntry.Imported y)) (h y))
+        (has_adds w r e near (to_of w y) (JournalEntry.Imported y)
+        ∙ none (has w (to_of w y) (JournalEntry.Imported y)) (eqb (to_of w y) r) (is_same e (JournalEntry.Imported y)) (h y))
 
 -- marked tables
 
@@ -172,7 +179,8 @@ pub froze_indexed : (w : World) (i : Indexes) (x : ℕ) → IsIndexed w i → ex
     IsIndexed (record (exporter_to w x Preparing) { sent = ms }) i
 unfolding authority
 froze_indexed w i x is e ms = same_indexed w (record (exporter_to w x Preparing) { sent = ms }) i is (λ d. refl)
-    (λ d. open_stays (exporter_to w x Preparing) (record (exporter_to w x Preparing) { sent = ms }) refl (λ y. refl) d ∙ exporter_open w x Preparing (rw e refl) d) refl refl refl i.dropped
+    (λ d. open_stays (exporter_to w x Preparing) (record (exporter_to w x Preparing) { sent = ms }) refl (λ y. refl) d
+    ∙ exporter_open w x Preparing (rw e refl) d) refl refl refl i.dropped
     (exporter_listed w.ranks w.orders w.exporters w.importers w.journals i.open_at i.dropped is.listed x Preparing (λ k. rw e refl)) is.dropped_places
 
 -- Abort
@@ -196,7 +204,8 @@ module _ (w : World) (x : ℕ) (near : x < length w.exporters) (ms : List Messag
   abort_indexed r i is b = record {
     owners = is.owners;
     opened = λ d. options_safely w r (get_or (map_at (λ k old. cond (is_inside w x k) None old) i.opened) d None) (open_export aborted d)
-        (λ safe. shut_opened w aborted safe x (before_over (exporter_of w x) (importer_of w x) b) refl aborted_over aborted_others i.opened is.opened_places d (is.opened d));
+        (λ safe. shut_opened w aborted safe x (before_over (exporter_of w x) (importer_of w x) b) refl aborted_over aborted_others i.opened
+        is.opened_places d (is.opened d));
     running = is.running;
     children = is.children;
     owner_places = is.owner_places;
@@ -221,17 +230,25 @@ not_here d e n = go (eqb e d) refl
     go true h = absurd (n (eqb-true e d h))
     go false h = refl
 
-pub begin_indexed : (w : World) (i : Indexes) (q : Request) → IsIndexed w i → q.dir < length w.parents → q.rank < length i.tickets_at → (ts : List (Option Request)) → ts ≡ w.tickets ++ Some q ∷ [] →
-    IsIndexed (record w { tickets = ts }) (record i { running = set i.running q.dir (get_or i.running q.dir 0 + 1); tickets_at = set i.tickets_at q.rank (get_or i.tickets_at q.rank [] ++ length w.tickets ∷ []) })
+pub begin_indexed : (w : World) (i : Indexes) (q : Request) → IsIndexed w i → q.dir < length w.parents → q.rank < length i.tickets_at
+    → (ts : List (Option Request)) → ts ≡ w.tickets ++ Some q ∷ [] →
+    IsIndexed (record w { tickets = ts })
+    (record i {
+      running = set i.running q.dir (get_or i.running q.dir 0 + 1);
+      tickets_at = set i.tickets_at q.rank (get_or i.tickets_at q.rank [] ++ length w.tickets ∷ []);
+    })
 unfolding authority open_export
 begin_indexed w i q is near ranked ts t = record {
   owners = is.owners;
   opened = is.opened;
   running = λ e. rw t (elim (cases_eq e q.dir) [
     | inl s ↦
-        (let n : get_or (set i.running q.dir (get_or i.running q.dir 0 + 1)) q.dir 0 ≡ get_or i.running q.dir 0 + 1 = get_or-set_same i.running q.dir (get_or i.running q.dir 0 + 1) 0 (rw is.running_places near) in
+        (let n : get_or (set i.running q.dir (get_or i.running q.dir 0 + 1)) q.dir 0
+        ≡ get_or i.running q.dir 0 + 1 = get_or-set_same i.running q.dir (get_or i.running q.dir 0 + 1) 0 (rw is.running_places near) in
         rw (s, n, is.running q.dir) (sym (running_begun w q q.dir ∙ ap (λ m. running_on w (q.dir ∷ []) + m) (here_now q.dir))))
-    | inr n ↦ get_or-set_other i.running q.dir e (get_or i.running q.dir 0 + 1) 0 n ∙ (is.running e ∙ sym (running_begun w q e ∙ (ap (λ m. running_on w (e ∷ []) + m) (not_here q.dir e n) ∙ plain (running_on w (e ∷ [])))))
+    | inr n ↦ get_or-set_other i.running q.dir e (get_or i.running q.dir 0 + 1) 0 n
+        ∙ (is.running e ∙ sym (running_begun w q e
+        ∙ (ap (λ m. running_on w (e ∷ []) + m) (not_here q.dir e n) ∙ plain (running_on w (e ∷ [])))))
   ]);
   children = is.children;
   owner_places = is.owner_places;
@@ -264,9 +281,14 @@ end_indexed w i t q is e near = record {
   opened = is.opened;
   running = λ d. elim (cases_eq d q.dir) [
     | inl s ↦
-        (let n : get_or (set i.running q.dir (get_or i.running q.dir 0 - 1)) q.dir 0 ≡ get_or i.running q.dir 0 - 1 = get_or-set_same i.running q.dir (get_or i.running q.dir 0 - 1) 0 (rw is.running_places near) in
-        rw (s, n, is.running q.dir) (less (count_by (runs_on (q.dir ∷ [])) (set w.tickets t None)) (runs_here q.dir q.dir) (running_on w (q.dir ∷ [])) (running_ended w t q q.dir e) (here_now q.dir)))
-    | inr n ↦ get_or-set_other i.running q.dir d (get_or i.running q.dir 0 - 1) 0 n ∙ (is.running d ∙ same (count_by (runs_on (d ∷ [])) (set w.tickets t None)) (runs_here d q.dir) (running_on w (d ∷ [])) (running_ended w t q d e) (not_here q.dir d n))
+        (let n : get_or (set i.running q.dir (get_or i.running q.dir 0 - 1)) q.dir 0
+        ≡ get_or i.running q.dir 0 - 1 = get_or-set_same i.running q.dir (get_or i.running q.dir 0 - 1) 0 (rw is.running_places near) in
+        rw (s, n, is.running q.dir)
+        (less (count_by (runs_on (q.dir ∷ [])) (set w.tickets t None)) (runs_here q.dir q.dir) (running_on w (q.dir ∷ []))
+        (running_ended w t q q.dir e) (here_now q.dir)))
+    | inr n ↦ get_or-set_other i.running q.dir d (get_or i.running q.dir 0 - 1) 0 n
+        ∙ (is.running d ∙ same (count_by (runs_on (d ∷ [])) (set w.tickets t None)) (runs_here d q.dir) (running_on w (d ∷ []))
+        (running_ended w t q d e) (not_here q.dir d n))
   ];
   children = is.children;
   owner_places = is.owner_places;
@@ -286,7 +308,8 @@ end_indexed w i t q is e near = record {
     same m n k e f = omega arith
 
 pub request_there : (w : World) → IsReached w → (t : ℕ) (q : Request) → get_or w.tickets t None ≡ Some q → q.dir < length w.parents
-request_there w r t q e = orders_by w r q.dir (length w.parents) (λ safe. there w safe q.dir q.rank (safe.owning.owner_named q.rank q.dir (safe.running.stands t q e)))
+request_there w r t q e = orders_by w r q.dir (length w.parents)
+    (λ safe. there w safe q.dir q.rank (safe.owning.owner_named q.rank q.dir (safe.running.stands t q e)))
   where
     there : (v : World) → Safe v → (d s : ℕ) → named_of v d ≡ Some s → d < length v.parents
     there v safe d s k = elim (cases_lt d (length v.parents)) [

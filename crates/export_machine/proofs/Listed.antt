@@ -1,5 +1,6 @@
 -- How the exports that are listed by rank follow each event.
-use Rattle.std.proofs.Common.{◌≡◌, ◌≢◌, ℕ, zero, suc, ◌+◌, ◌<◌, ◌≤◌, Bool, true, false, ◌&&◌, ◌||◌, not, eqb, cond, List, [], ◌∷◌, ◌++◌, length, get_or, set, take, Vec, refl, sym, ap, ◌∙◌, inl, inr, ◌⊎◌, arith}
+use Rattle.std.proofs.Common.{◌≡◌, ◌≢◌, ℕ, zero, suc, ◌+◌, ◌<◌, ◌≤◌, Bool, true, false, ◌&&◌, ◌||◌, not, eqb, cond, List}
+use Rattle.std.proofs.Common.{[], ◌∷◌, ◌++◌, length, get_or, set, take, Vec, refl, sym, ap, ◌∙◌, inl, inr, ◌⊎◌, arith}
 use Rattle.std.specs.Prelude.{replicate, nat_lt}
 use Rattle.std.proofs.lemmas.Bool.{cases_lt, cases_eq, cases_Bool, or_left, or_right}
 use Rattle.std.proofs.lemmas.List.{get_or-set_same, get_or-set_other, get_or_past, length-set, take_all}
@@ -23,7 +24,8 @@ use Rattle.export_protocol.proofs.Views.{has_adds}
 -- what is listed stays so
 
 -- one export more in a rank's list
-pub pushed : (ls : List (List ℕ)) (r x s y : ℕ) → r < length ls → is_among (get_or ls s []) y ≡ true → is_among (get_or (set ls r (get_or ls r [] ++ x ∷ [])) s []) y ≡ true
+pub pushed : (ls : List (List ℕ)) (r x s y : ℕ) → r < length ls → is_among (get_or ls s []) y ≡ true
+    → is_among (get_or (set ls r (get_or ls r [] ++ x ∷ [])) s []) y ≡ true
 pushed ls r x s y near h = elim (cases_eq s r) [
   | inl e ↦
       rw (e, get_or-set_same ls r (get_or ls r [] ++ x ∷ []) [] near, among_push (get_or ls r []) x y)
@@ -43,7 +45,8 @@ set_before xs x s f y h = elim (cases_eq y x) [
   | inr n ↦ ap is_before_log (sym (get_or-set_other xs x y s Aborted n)) ∙ h
   | inl e ↦ ap (λ k. is_before_log (get_or xs k Aborted)) e ∙ elim (cases_lt x (length xs)) [
     | inl m ↦ f (ap is_before_log (sym (get_or-set_same xs x s Aborted m)) ∙ (ap (λ k. is_before_log (get_or (set xs x s) k Aborted)) (sym e) ∙ h))
-    | inr m ↦ absurd (differ (ap is_before_log (sym (get_or_past (set xs x s) x Aborted (rw (length-set xs x s) m))) ∙ (ap (λ k. is_before_log (get_or (set xs x s) k Aborted)) (sym e) ∙ h)))
+    | inr m ↦ absurd (differ (ap is_before_log (sym (get_or_past (set xs x s) x Aborted (rw (length-set xs x s) m)))
+        ∙ (ap (λ k. is_before_log (get_or (set xs x s) k Aborted)) (sym e) ∙ h)))
   ]
 ]
   where
@@ -56,7 +59,8 @@ set_passing xs x s f y h = elim (cases_eq y x) [
   | inr n ↦ ap is_passing (sym (get_or-set_other xs x y s Unknown n)) ∙ h
   | inl e ↦ ap (λ k. is_passing (get_or xs k Unknown)) e ∙ elim (cases_lt x (length xs)) [
     | inl m ↦ f (ap is_passing (sym (get_or-set_same xs x s Unknown m)) ∙ (ap (λ k. is_passing (get_or (set xs x s) k Unknown)) (sym e) ∙ h))
-    | inr m ↦ absurd (differ (ap is_passing (sym (get_or_past (set xs x s) x Unknown (rw (length-set xs x s) m))) ∙ (ap (λ k. is_passing (get_or (set xs x s) k Unknown)) (sym e) ∙ h)))
+    | inr m ↦ absurd (differ (ap is_passing (sym (get_or_past (set xs x s) x Unknown (rw (length-set xs x s) m)))
+        ∙ (ap (λ k. is_passing (get_or (set xs x s) k Unknown)) (sym e) ∙ h)))
   ]
 ]
   where
@@ -67,18 +71,23 @@ set_passing xs x s f y h = elim (cases_eq y x) [
 pub entry_drops_none : (w : World) (r : ℕ) (e : JournalEntry) → r < length w.journals → ((y : ℕ) → is_same e (JournalEntry.Dropped y) ≡ false) →
     (x : ℕ) → has_dropped w.orders (journals w r e).journals x ≡ has_dropped w.orders w.journals x
 entry_drops_none w r e near h x =
-    has_adds w r e near (order_in w.orders x).to (JournalEntry.Dropped x) ∙ none (has w (order_in w.orders x).to (JournalEntry.Dropped x)) (eqb (order_in w.orders x).to r) (is_same e (JournalEntry.Dropped x)) (h x)
+    has_adds w r e near (order_in w.orders x).to (JournalEntry.Dropped x)
+    ∙ none (has w (order_in w.orders x).to (JournalEntry.Dropped x)) (eqb (order_in w.orders x).to r)
+    (is_same e (JournalEntry.Dropped x)) (h x)
   where
     none : (a b c : Bool) → c ≡ false → (a || (b && c)) ≡ a
     none a b c k = grind arith
 
-module _ (ranks : ℕ) (os : List Order) (es : List ExporterState) (is : List ImporterState) (js : List (List JournalEntry)) (ls : List (List ℕ)) (ns : List Bool) (l : AreListed ranks os es is js ls ns) where
+module _ (ranks : ℕ) (os : List Order) (es : List ExporterState) (is : List ImporterState) (js : List (List JournalEntry))
+    (ls : List (List ℕ)) (ns : List Bool) (l : AreListed ranks os es is js ls ns) where
   -- an exporter's state changes
-  pub exporter_listed : (x : ℕ) (s : ExporterState) → (is_before_log s ≡ true → is_before_log (get_or es x Aborted) ≡ true) → AreListed ranks os (set es x s) is js ls ns
+  pub exporter_listed : (x : ℕ) (s : ExporterState) → (is_before_log s ≡ true → is_before_log (get_or es x Aborted) ≡ true)
+      → AreListed ranks os (set es x s) is js ls ns
   exporter_listed x s f = record { exports = λ y h. l.exports y (set_before es x s f y h); imports = l.imports; tells = l.tells; ranked = l.ranked }
 
   -- an importer's state changes
-  pub importer_listed : (x : ℕ) (s : ImporterState) → (is_passing s ≡ true → is_passing (get_or is x Unknown) ≡ true) → AreListed ranks os es (set is x s) js ls ns
+  pub importer_listed : (x : ℕ) (s : ImporterState) → (is_passing s ≡ true → is_passing (get_or is x Unknown) ≡ true)
+      → AreListed ranks os es (set is x s) js ls ns
   importer_listed x s f = record { exports = l.exports; imports = λ y h k. l.imports y (set_passing is x s f y h) k; tells = l.tells; ranked = l.ranked }
 
   -- an entry drops nothing
@@ -86,7 +95,8 @@ module _ (ranks : ℕ) (os : List Order) (es : List ExporterState) (is : List Im
   entry_listed ks h = record { exports = l.exports; imports = λ x p k. l.imports x p (sym (h x) ∙ k); tells = λ x. l.tells x ∙ sym (h x); ranked = l.ranked }
 
   -- the importer hears of an export
-  pub heard_listed : (x : ℕ) (s : ImporterState) → (order_in os x).to < length ls → AreListed ranks os es (set is x s) js (set ls (order_in os x).to (get_or ls (order_in os x).to [] ++ x ∷ [])) ns
+  pub heard_listed : (x : ℕ) (s : ImporterState) → (order_in os x).to < length ls
+      → AreListed ranks os es (set is x s) js (set ls (order_in os x).to (get_or ls (order_in os x).to [] ++ x ∷ [])) ns
   heard_listed x s near = record {
     exports = λ y h. pushed ls (order_in os x).to x (order_in os y).from y near (l.exports y h);
     imports = λ y h k. elim (cases_eq y x) [
@@ -98,7 +108,8 @@ module _ (ranks : ℕ) (os : List Order) (es : List ExporterState) (is : List Im
   }
 
 -- an import is dropped that had started
-module _ (w : World) (ls : List (List ℕ)) (ns : List Bool) (l : AreListed w.ranks w.orders w.exporters w.importers w.journals ls ns) (x : ℕ) (places : length ns ≡ length w.orders) (there : x < length w.orders)
+module _ (w : World) (ls : List (List ℕ)) (ns : List Bool) (l : AreListed w.ranks w.orders w.exporters w.importers w.journals ls ns) (x : ℕ)
+    (places : length ns ≡ length w.orders) (there : x < length w.orders)
     (near : (order_in w.orders x).to < length w.journals) where
   abbrev told : List (List JournalEntry)
   told = (journals (importer_to w x Dropped) (order_in w.orders x).to (JournalEntry.Dropped x)).journals
@@ -140,7 +151,8 @@ module _ (w : World) (ls : List (List ℕ)) (ns : List Bool) (l : AreListed w.ra
 -- a new cluster's
 
 pub no_drops : (ranks x : ℕ) → has_dropped [] (set (replicate ranks []) 0 (JournalEntry.Made 0 ∷ [])) x ≡ false
-no_drops ranks x = ap (λ (o : Order). has_entry (get_or (set (replicate ranks []) 0 (JournalEntry.Made 0 ∷ [])) o.to []) (JournalEntry.Dropped x)) (get_or_past [] x no_order (omega arith)) ∙ go ranks
+no_drops ranks x = ap (λ (o : Order). has_entry (get_or (set (replicate ranks []) 0 (JournalEntry.Made 0 ∷ [])) o.to [])
+    (JournalEntry.Dropped x)) (get_or_past [] x no_order (omega arith)) ∙ go ranks
   where
     go : (n : ℕ) → has_entry (get_or (set (replicate n []) 0 (JournalEntry.Made 0 ∷ [])) 0 []) (JournalEntry.Dropped x) ≡ false
     go zero = refl
@@ -175,10 +187,12 @@ passing_near is x h = elim (cases_lt x (length is)) [ inl m ↦ m | inr m ↦ ab
     differ : false ≡ true → ⊥
     differ e = cc
 
-module _ (ranks : ℕ) (os : List Order) (es : List ExporterState) (is : List ImporterState) (js : List (List JournalEntry)) (ls : List (List ℕ)) (ns : List Bool) (l : AreListed ranks os es is js ls ns)
+module _ (ranks : ℕ) (os : List Order) (es : List ExporterState) (is : List ImporterState) (js : List (List JournalEntry))
+    (ls : List (List ℕ)) (ns : List Bool) (l : AreListed ranks os es is js ls ns)
     (exporting : length es ≡ length os) (importing : length is ≡ length os) (rank : ℕ) (kept : List ℕ) (near : rank < length ls)
     (keeps : (x : ℕ) → is_open_at rank os es is ns x ≡ true → is_among (get_or ls rank []) x ≡ true → is_among kept x ≡ true) where
-  stays : (x s : ℕ) → is_among (get_or ls s []) x ≡ true → (s ≡ rank → is_open_at rank os es is ns x ≡ true) → is_among (get_or (set ls rank kept) s []) x ≡ true
+  stays : (x s : ℕ) → is_among (get_or ls s []) x ≡ true → (s ≡ rank → is_open_at rank os es is ns x ≡ true)
+      → is_among (get_or (set ls rank kept) s []) x ≡ true
   stays x s h o = elim (cases_eq s rank) [
     | inl e ↦ rw (e, get_or-set_same ls rank kept [] near) (keeps x (o e) (ap (λ k. is_among (get_or ls k []) x) (sym e) ∙ h))
     | inr n ↦ ap (λ k. is_among k x) (get_or-set_other ls rank s kept [] n) ∙ h
@@ -187,9 +201,13 @@ module _ (ranks : ℕ) (os : List Order) (es : List ExporterState) (is : List Im
   pub kept_listed : AreListed ranks os es is js (set ls rank kept) ns
   kept_listed = record {
     exports = λ x h. stays x (order_in os x).from (l.exports x h)
-        (λ e. first (nat_lt x (length os)) (eqb (order_in os x).from rank) (is_before_log (get_or es x Aborted)) (eqb (order_in os x).to rank) (is_passing (get_or is x Unknown)) (get_or ns x false) (there x (omega (arith, before_near es x h))) (rw e (itself rank)) h);
+        (λ e. first (nat_lt x (length os)) (eqb (order_in os x).from rank) (is_before_log (get_or es x Aborted))
+        (eqb (order_in os x).to rank) (is_passing (get_or is x Unknown)) (get_or ns x false)
+        (there x (omega (arith, before_near es x h))) (rw e (itself rank)) h);
     imports = λ x h k. stays x (order_in os x).to (l.imports x h k)
-        (λ e. second (nat_lt x (length os)) (eqb (order_in os x).from rank) (is_before_log (get_or es x Aborted)) (eqb (order_in os x).to rank) (is_passing (get_or is x Unknown)) (get_or ns x false) (there x (omega (arith, passing_near is x h))) (rw e (itself rank)) h (l.tells x ∙ k));
+        (λ e. second (nat_lt x (length os)) (eqb (order_in os x).from rank) (is_before_log (get_or es x Aborted))
+        (eqb (order_in os x).to rank) (is_passing (get_or is x Unknown)) (get_or ns x false)
+        (there x (omega (arith, passing_near is x h))) (rw e (itself rank)) h (l.tells x ∙ k));
     tells = l.tells;
     ranked = length-set ls rank kept ∙ l.ranked;
   }
@@ -215,11 +233,13 @@ set_own (x ∷ xs) zero d = refl
 set_own (x ∷ xs) (suc k) d = ap (λ ys. x ∷ ys) (set_own xs k d)
 
 set_change : {A : Type 0} (g : ℕ → A → A) → ((k : ℕ) (a : A) → g k (g k a) ≡ g k a) → (test : ℕ → Bool) (xs : List A) (n : ℕ) (d : A) →
-    set (map_at (λ k a. cond (test k) (g k a) a) xs) n (g n (get_or (map_at (λ k a. cond (test k) (g k a) a) xs) n d)) ≡ map_at (λ k a. cond (test k || eqb n k) (g k a) a) xs
+    set (map_at (λ k a. cond (test k) (g k a) a) xs) n (g n (get_or (map_at (λ k a. cond (test k) (g k a) a) xs) n d))
+    ≡ map_at (λ k a. cond (test k || eqb n k) (g k a) a) xs
 set_change g twice test [] zero d = refl
 set_change g twice test [] (suc n) d = refl
 set_change {A = A} g twice test (x ∷ xs) zero d =
-    rw (here (test 0)) (ap (λ ys. cond (test 0 || eqb 0 0) (g 0 x) x ∷ ys) (map_at_same (λ k a. cond (test (suc k)) (g (suc k) a) a) (λ k a. cond (test (suc k) || eqb 0 (suc k)) (g (suc k) a) a)
+    rw (here (test 0)) (ap (λ ys. cond (test 0 || eqb 0 0) (g 0 x) x ∷ ys)
+    (map_at_same (λ k a. cond (test (suc k)) (g (suc k) a) a) (λ k a. cond (test (suc k) || eqb 0 (suc k)) (g (suc k) a) a)
     (λ k a. ap (λ b. cond b (g (suc k) a) a) (there (test (suc k)) k)) xs))
   where
     here : (b : Bool) → g 0 (cond b (g 0 x) x) ≡ cond (b || eqb 0 0) (g 0 x) x
@@ -245,7 +265,8 @@ set_change g twice test (x ∷ xs) (suc n) d =
 pub change_among_none : {A : Type 0} (g : ℕ → A → A) (xs : List A) → xs ≡ changed_among g [] xs
 change_among_none g xs = sym (unchanged xs)
 
-pub change_among_next : {A : Type 0} (g : ℕ → A → A) → ((k : ℕ) (a : A) → g k (g k a) ≡ g k a) → (places : List ℕ) (i n : ℕ) (xs ys : List A) (v d : A) → i < length places → n ≡ get_or places i n →
+pub change_among_next : {A : Type 0} (g : ℕ → A → A) → ((k : ℕ) (a : A) → g k (g k a) ≡ g k a)
+    → (places : List ℕ) (i n : ℕ) (xs ys : List A) (v d : A) → i < length places → n ≡ get_or places i n →
     ys ≡ changed_among g (take i places) xs → v ≡ g n (get_or ys n d) → set ys n v ≡ changed_among g (take (i + 1) places) xs
 change_among_next g twice places i n xs ys v d l e s h =
     ap (set ys n) h
@@ -254,11 +275,14 @@ change_among_next g twice places i n xs ys v d l e s h =
     ∙ map_at_same _ _ (λ k a. ap (λ b. cond b (g k a) a) (sym (ap (λ zs. is_among zs k) (take_next places i n l e) ∙ among_push (take i places) n k))) xs))
 
 -- where each place that changes is in the list
-pub change_among_all : {A : Type 0} (g : ℕ → A → A) (places : List ℕ) (i : ℕ) (xs : List A) (d : A) → length places ≤ i → ((k : ℕ) → is_among places k ≡ false → g k (get_or xs k d) ≡ get_or xs k d) →
+pub change_among_all : {A : Type 0} (g : ℕ → A → A) (places : List ℕ) (i : ℕ) (xs : List A) (d : A) → length places ≤ i
+    → ((k : ℕ) → is_among places k ≡ false → g k (get_or xs k d) ≡ get_or xs k d) →
     changed_among g (take i places) xs ≡ map_at g xs
-change_among_all g places i xs d past rest = ap (λ l. changed_among g l xs) (take_all i places past) ∙ same_here _ _ xs d (λ k l. go k (cases_Bool (is_among places k)))
+change_among_all g places i xs d past rest = ap (λ l. changed_among g l xs) (take_all i places past)
+    ∙ same_here _ _ xs d (λ k l. go k (cases_Bool (is_among places k)))
   where
-    go : (k : ℕ) → (is_among places k ≡ true) ⊎ (is_among places k ≡ false) → cond (is_among places k) (g k (get_or xs k d)) (get_or xs k d) ≡ g k (get_or xs k d)
+    go : (k : ℕ) → (is_among places k ≡ true) ⊎ (is_among places k ≡ false)
+        → cond (is_among places k) (g k (get_or xs k d)) (get_or xs k d) ≡ g k (get_or xs k d)
     go k (inl t) = rw t refl
     go k (inr f) = rw f (sym (rest k f))
 

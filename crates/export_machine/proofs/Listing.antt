@@ -1,5 +1,6 @@
 -- Lists of directories and their marks.
-use Rattle.std.proofs.Common.{◌≡◌, ℕ, zero, suc, ◌+◌, ◌<◌, Bool, true, false, ◌||◌, eqb, List, [], ◌∷◌, ◌++◌, length, get_or, set, take, Option, None, is_some, refl, sym, ap, ◌∙◌, inl, inr, arith}
+use Rattle.std.proofs.Common.{◌≡◌, ℕ, zero, suc, ◌+◌, ◌<◌, Bool, true, false, ◌||◌, eqb, List, [], ◌∷◌, ◌++◌}
+use Rattle.std.proofs.Common.{length, get_or, set, take, Option, None, is_some, refl, sym, ap, ◌∙◌, inl, inr, arith}
 use Rattle.std.specs.List.{list_all}
 use Rattle.std.specs.Prelude.{replicate, IfSome, MatchOption, Some}
 use Rattle.std.proofs.lemmas.Bool.{cases_lt, and_parts, cases_Bool, cases_eq, false≢true, ne_eqb, or_cases, or_from, or_left, or_right}
@@ -39,7 +40,8 @@ repeats_push : (xs : List ℕ) (d : ℕ) → repeats (xs ++ d ∷ []) ≡ (repea
 repeats_push [] d = refl
 repeats_push (x ∷ xs) d =
     ap (λ b. b || repeats (xs ++ d ∷ [])) (among_push xs d x)
-    ∙ (ap (λ b. (is_among xs x || eqb d x) || b) (repeats_push xs d) ∙ regroup (is_among xs x) (eqb d x) (eqb x d) (repeats xs) (is_among xs d) (either_way (eqb d x) refl))
+    ∙ (ap (λ b. (is_among xs x || eqb d x) || b) (repeats_push xs d)
+    ∙ regroup (is_among xs x) (eqb d x) (eqb x d) (repeats xs) (is_among xs d) (either_way (eqb d x) refl))
   where
     regroup : (a b c e f : Bool) → b ≡ c → ((a || b) || (e || f)) ≡ ((a || e) || (c || f))
     regroup a b c e f h = grind arith
@@ -47,7 +49,8 @@ repeats_push (x ∷ xs) d =
     either_way : (b : Bool) → eqb d x ≡ b → eqb d x ≡ eqb x d
     either_way b h = grind arith
 
-pub once_next : (xs : List ℕ) (i d : ℕ) → i < length xs → d ≡ get_or xs i d → repeats (take i xs) ≡ false → is_among (take i xs) d ≡ false → repeats (take (i + 1) xs) ≡ false
+pub once_next : (xs : List ℕ) (i d : ℕ) → i < length xs → d ≡ get_or xs i d → repeats (take i xs) ≡ false → is_among (take i xs) d ≡ false
+    → repeats (take (i + 1) xs) ≡ false
 once_next xs i d l e h k = ap repeats (take_next xs i d l e) ∙ (repeats_push (take i xs) d ∙ or_from (repeats (take i xs)) (is_among (take i xs) d) h k)
 
 -- a member that is also before its place is there twice
@@ -65,13 +68,15 @@ listed_near ps d h = elim (cases_lt d (length ps)) [
   | inr m ↦ absurd (false≢true (sym (ap is_some (get_or_past ps d None m)) ∙ h))
 ]
 
-pub marked_next : (ms : List Bool) (xs : List ℕ) (i d : ℕ) → i < length xs → d ≡ get_or xs i d → d < length ms → ((k : ℕ) → get_or ms k false ≡ is_among (take i xs) k) →
+pub marked_next : (ms : List Bool) (xs : List ℕ) (i d : ℕ) → i < length xs → d ≡ get_or xs i d → d < length ms
+    → ((k : ℕ) → get_or ms k false ≡ is_among (take i xs) k) →
     (k : ℕ) → get_or (set ms d true) k false ≡ is_among (take (i + 1) xs) k
 marked_next ms xs i d l e near h k = elim (cases_eq k d) [
   | inl s ↦ rw (s, take_next xs i d l e, push_new (take i xs) d) (get_or-set_same ms d true false near)
   | inr n ↦
       get_or-set_other ms d k true false n
-      ∙ (h k ∙ sym (ap (λ ys. is_among ys k) (take_next xs i d l e) ∙ (among_push (take i xs) d k ∙ or_none (is_among (take i xs) k) (eqb d k) (ne_eqb d k (λ s. n (sym s))))))
+      ∙ (h k ∙ sym (ap (λ ys. is_among ys k) (take_next xs i d l e)
+      ∙ (among_push (take i xs) d k ∙ or_none (is_among (take i xs) k) (eqb d k) (ne_eqb d k (λ s. n (sym s))))))
 ]
 
 pub all_clear : (ms : List Bool) → ((k : ℕ) → get_or ms k false ≡ false) → ms ≡ replicate (length ms) false

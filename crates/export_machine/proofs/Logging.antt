@@ -20,7 +20,8 @@ module _ (w : World) where
   unless_not None o h = sym h
   unless_not (Some f) o h = refl
 
-  pub delivered_logs : (k : ℕ) (m : Message) → refusal w (Deliver k) ≡ None → slice_get w.sent k ≡ Some m → logs_export w (Deliver k) ≡ is_log (delivered_entry w (Some m))
+  pub delivered_logs : (k : ℕ) (m : Message) → refusal w (Deliver k) ≡ None → slice_get w.sent k ≡ Some m
+      → logs_export w (Deliver k) ≡ is_log (delivered_entry w (Some m))
   unfolding logs_export entry
   delivered_logs k m h e = rw (h, e) refl
 

@@ -32,7 +32,8 @@ module _ (r : Records) where
   early m can s p = importer_listed w.ranks w.orders w.exporters w.importers w.journals i.open_at i.dropped can.kept.indexed.listed (about m) s (λ k. p)
 
   hears : (m : Message) (can : CanReceive r m) (s : ImporterState) →
-      AreListed w.ranks w.orders w.exporters (importer_to w (about m) s).importers w.journals (heard (to_of w (about m)) (about m) (Some s) Unknown i.open_at) i.dropped
+      AreListed w.ranks w.orders w.exporters (importer_to w (about m) s).importers w.journals
+      (heard (to_of w (about m)) (about m) (Some s) Unknown i.open_at) i.dropped
   hears m can s = heard_listed w.ranks w.orders w.exporters w.importers w.journals i.open_at i.dropped can.kept.indexed.listed (about m) s (to_listed r m can)
 
   pub row_indexed : (m : Message) (can : CanReceive r m) (e : ExporterState) (s : ImporterState) → exporter_of w (about m) ≡ e → importer_of w (about m) ≡ s →
@@ -49,7 +50,8 @@ module _ (r : Records) where
   row_indexed (Cancel x) can e Discovered h k = importer_indexed w i can.kept.indexed _ _ _ (early (Cancel x) can Dropped (rw k refl))
   row_indexed (Cancel x) can e Prepared h k = importer_indexed w i can.kept.indexed _ _ _ (early (Cancel x) can Dropped (rw k refl))
   row_indexed (Cancel x) can e Started h k =
-      dropped_indexed w i x can.sent.0 can.kept.reached can.kept.indexed k (known_importer r (Cancel x) can) (to_rank r (Cancel x) can) can.sent.1 (known r (Cancel x) can)
+      dropped_indexed w i x can.sent.0 can.kept.reached can.kept.indexed k (known_importer r (Cancel x) can) (to_rank r (Cancel x) can)
+      can.sent.1 (known r (Cancel x) can)
   row_indexed (Query x) can Done s h k = importer_indexed w i can.kept.indexed _ _ _ can.kept.indexed.listed
   row_indexed (Query x) can Aborted s h k = importer_indexed w i can.kept.indexed _ _ _ can.kept.indexed.listed
   row_indexed _ can _ _ h k = can.kept.indexed
@@ -63,6 +65,7 @@ importers_long w x None = refl
 importers_long w x (Some s) = length-set w.importers x s
 
 -- a move in its parts
-pub moved_parts : (w w₁ w₂ w₃ w₄ : World) (x rank : ℕ) (v : Transition) (reply : Reply) → w₁ ≡ exporter_moves w x v.exporter → w₂ ≡ importer_moves w₁ x v.importer →
+pub moved_parts : (w w₁ w₂ w₃ w₄ : World) (x rank : ℕ) (v : Transition) (reply : Reply) → w₁ ≡ exporter_moves w x v.exporter
+    → w₂ ≡ importer_moves w₁ x v.importer →
     w₃ ≡ notes w₂ rank v.entry → replies w₃ v.sends ≡ record { reply = reply; world = w₄ } → moved w x rank v ≡ record { reply = reply; world = w₄ }
 moved_parts w w₁ w₂ w₃ w₄ x rank v reply e i n s = rw (← e, ← i, ← n) s

@@ -11,7 +11,8 @@ use Rattle.export_protocol.specs.Step.{importer_to, journals}
 use Rattle.export_protocol.proofs.Owning.{is_moving, is_over}
 use Rattle.export_protocol.proofs.Safe.{Safe, phase_of, imported_safe, import_outside, import_won, import_near, importer_phases}
 use Rattle.export_protocol.proofs.Lookups.{takes_over, inside_near}
-use Rattle.export_protocol.proofs.Events.{made_safe, made_won, made_rest, gone_safe, gone_rest, set_none, with_export, start_safe, start_owns, start_insides, start_tos, start_phases, start_phase}
+use Rattle.export_protocol.proofs.Events.{made_safe, made_won, made_rest, gone_safe, gone_rest, set_none, with_export}
+use Rattle.export_protocol.proofs.Events.{start_safe, start_owns, start_insides, start_tos, start_phases, start_phase}
 use Rattle.export_protocol.proofs.Theorem.{safe_gone}
 use Rattle.export_protocol.proofs.Authorities.{authority_found, no_authority}
 use Rattle.export_protocol.proofs.Walks.{quiet_authority, authority_near}

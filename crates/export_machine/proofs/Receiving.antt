@@ -61,7 +61,8 @@ module _ (r : Records) (m : Message) (can : CanReceive r m) where
   inside_opened d h = rw can.kept.indexed.opened_places (are_made (world_of r) can.kept.reached (about m) d h)
 
   pub to_listed : to_of (world_of r) (about m) < length (indexes_of r).open_at
-  to_listed = let k : to_of (world_of r) (about m) < length (world_of r).journals = to_rank in omega (arith, as_lists r can.kept, length-map r.open_at.items (λ l. l.items), length-map r.journals.items (λ j. j.items))
+  to_listed = let k : to_of (world_of r) (about m) < length (world_of r).journals = to_rank in
+      omega (arith, as_lists r can.kept, length-map r.open_at.items (λ l. l.items), length-map r.journals.items (λ j. j.items))
 
   pub as_exporters : length r.exports.exporters ≡ length r.exports.orders
   as_exporters = numbers_by (world_of r) can.kept.reached (length r.exports.exporters) (length r.exports.orders) (λ safe. safe.exporting)

@@ -1,5 +1,6 @@
 -- The tables of a new cluster.
-use Rattle.std.proofs.Common.{◌≡◌, ℕ, zero, suc, ◌+◌, ◌≤◌, Bool, true, false, ◌&&◌, not, eqb, cond, [], ◌∷◌, length, get_or, set, Some, None, refl, sym, ap, ◌∙◌, inl, inr, ◌⊎◌, arith}
+use Rattle.std.proofs.Common.{◌≡◌, ℕ, zero, suc, ◌+◌, ◌≤◌, Bool, true, false, ◌&&◌, not, eqb, cond, []}
+use Rattle.std.proofs.Common.{◌∷◌, length, get_or, set, Some, None, refl, sym, ap, ◌∙◌, inl, inr, ◌⊎◌, arith}
 use Rattle.std.proofs.lemmas.Bool.{false≢true}
 use Rattle.export_protocol.specs.Cluster.{World}
 use Rattle.export_protocol.specs.Authority.{IsAuthority, authority, open_export, is_present, named_of, runs_on}
@@ -23,7 +24,8 @@ module _ (limit ranks : ℕ) (some : 1 ≤ ranks) where
   first_rank : (r : ℕ) → Some 0 ≡ Some r → r ≡ 0
   first_rank r e = cc
 
-  root_authority : (s : Safe (start limit ranks)) → (r : ℕ) → named_of (start limit ranks) 0 ≡ Some r → IsAuthority (start limit ranks) r 0 ⊎ IsBetweenLogAndNotify (start limit ranks) r 0 → authority (start limit ranks) 0 ≡ Some 0
+  root_authority : (s : Safe (start limit ranks)) → (r : ℕ) → named_of (start limit ranks) 0 ≡ Some r
+      → IsAuthority (start limit ranks) r 0 ⊎ IsBetweenLogAndNotify (start limit ranks) r 0 → authority (start limit ranks) 0 ≡ Some 0
   unfolding start
   root_authority s r e (inl a) = authority_found (start limit ranks) s r 0 a (authority_near (start limit ranks) s r 0 a) ∙ ap Some (first_rank r e)
   root_authority s r e (inr b) = absurd (cc (b.1))
@@ -37,8 +39,10 @@ module _ (limit ranks : ℕ) (some : 1 ≤ ranks) where
   not_there d = refl
 
   owners : (d : ℕ) → get_or (Some 0 ∷ []) d None ≡ authority (start limit ranks) d
-  owners zero = (let m = safe_named (start limit ranks) (start_safe limit ranks some) 0 root_there in sym (root_authority (start_safe limit ranks some) m.0 m.1 m.2))
-  owners (suc d) = sym (no_authority (start limit ranks) (start_safe limit ranks some) (suc d) (safe_gone (start limit ranks) (start_safe limit ranks some) (suc d) (not_there d)).1)
+  owners zero = (let m = safe_named (start limit ranks) (start_safe limit ranks some) 0 root_there in
+      sym (root_authority (start_safe limit ranks some) m.0 m.1 m.2))
+  owners (suc d) = sym (no_authority (start limit ranks) (start_safe limit ranks some) (suc d)
+      (safe_gone (start limit ranks) (start_safe limit ranks some) (suc d) (not_there d)).1)
 
   no_child : (b : Bool) → 0 ≡ cond {A = ℕ} (b && not b) 1 0 + 0
   no_child true = refl
@@ -49,7 +53,17 @@ module _ (limit ranks : ℕ) (some : 1 ≤ ranks) where
   opened zero = refl
   opened (suc d) = refl
 
-  pub start_indexed : IsIndexed (start limit ranks) (record { owners = Some 0 ∷ []; opened = None ∷ []; running = 0 ∷ []; children = 0 ∷ []; marks = false ∷ []; tickets_at = replicate ranks []; open_at = replicate ranks []; dropped = [] })
+  pub start_indexed : IsIndexed (start limit ranks)
+      (record {
+        owners = Some 0 ∷ [];
+        opened = None ∷ [];
+        running = 0 ∷ [];
+        children = 0 ∷ [];
+        marks = false ∷ [];
+        tickets_at = replicate ranks [];
+        open_at = replicate ranks [];
+        dropped = [];
+      })
   unfolding start
   start_indexed = record {
     owners = owners;
@@ -75,7 +89,8 @@ module _ (limit ranks : ℕ) (some : 1 ≤ ranks) where
       children (suc d) = no_child (eqb 0 (suc d))
 
 -- what is kept of a new cluster
-pub start_kept : (r : Records) (limit ranks : ℕ) → 1 ≤ limit → limit ≤ 65536 → 1 ≤ ranks → ranks ≤ 64 → world_of r ≡ start limit ranks → indexes_of r ≡ first_indexes ranks → IsKept r
+pub start_kept : (r : Records) (limit ranks : ℕ) → 1 ≤ limit → limit ≤ 65536 → 1 ≤ ranks → ranks ≤ 64 → world_of r ≡ start limit ranks
+    → indexes_of r ≡ first_indexes ranks → IsKept r
 unfolding start
 start_kept r limit ranks some_dirs few_dirs some_ranks few_ranks w i = record {
   reached = ∣ (limit, ranks, [], some_ranks, sym w) ∣₁;

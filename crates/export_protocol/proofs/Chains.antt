@@ -1,5 +1,6 @@
 -- The test for connected sets is their definition.
-use Rattle.std.proofs.Common.{◌≡◌, ◌≢◌, ℕ, zero, suc, ◌+◌, ◌<◌, Bool, true, false, ◌&&◌, not, eqb, cond, List, [], ◌∷◌, length, Option, Some, None, refl, sym, ap, ◌∙◌, subst, inl, inr, ◌⊎◌, arith}
+use Rattle.std.proofs.Common.{◌≡◌, ◌≢◌, ℕ, zero, suc, ◌+◌, ◌<◌, Bool, true, false, ◌&&◌, not, eqb, cond, List}
+use Rattle.std.proofs.Common.{[], ◌∷◌, length, Option, Some, None, refl, sym, ap, ◌∙◌, subst, inl, inr, ◌⊎◌, arith}
 use Rattle.std.proofs.lemmas.Bool.{and_from, and_parts, cases_Bool, cases_eq, eqb-true, ne_eqb, not-true, or_cases, or_from, or_left, or_parts, or_right}
 use Rattle.std.specs.List.{count_by}
 use Rattle.export_protocol.specs.Cluster.{World}
@@ -123,7 +124,8 @@ module _ (w : World) (tidy : Tidy w) (dirs : List ℕ) where
   climb zero d l i = absurd (omega arith)
   climb (suc n) d l i = go (parent_of w d) refl (climb n)
     where
-      go : (o : Option ℕ) → parent_of w d ≡ o → ((c : ℕ) → c < n → is_among dirs c ≡ true → (t : ℕ) × (is_among dirs t ≡ true) × (is_top t ≡ true) × Chain w dirs c t) →
+      go : (o : Option ℕ) → parent_of w d ≡ o
+          → ((c : ℕ) → c < n → is_among dirs c ≡ true → (t : ℕ) × (is_among dirs t ≡ true) × (is_top t ≡ true) × Chain w dirs c t) →
           (t : ℕ) × (is_among dirs t ≡ true) × (is_top t ≡ true) × Chain w dirs d t
       go None e ih = (d, i, rw e refl, here i)
       go (Some p) e ih = elim (cases_Bool (is_among dirs p && not (eqb p d))) [
@@ -212,7 +214,8 @@ first_member (x ∷ xs) h = (x, among_first x xs)
 
 repeats_none : (xs : List ℕ) → AllPairs (λ c d. c ≢ d) xs → repeats xs ≡ false
 repeats_none [] h = refl
-repeats_none (x ∷ xs) h = or_from (is_among xs x) (repeats xs) (fresh (is_among xs x) refl) (repeats_none xs (λ i j d l m. h (suc i) (suc j) d (omega arith) (omega arith)))
+repeats_none (x ∷ xs) h = or_from (is_among xs x) (repeats xs) (fresh (is_among xs x) refl)
+    (repeats_none xs (λ i j d l m. h (suc i) (suc j) d (omega arith) (omega arith)))
   where
     fresh : (b : Bool) → is_among xs x ≡ b → b ≡ false
     fresh false e = refl
@@ -224,7 +227,8 @@ repeated_none (x ∷ xs) h = pairs (repeated_none xs (or_parts (is_among xs x) (
   where
     pairs : AllPairs (λ c d. c ≢ d) xs → AllPairs (λ c d. c ≢ d) (x ∷ xs)
     pairs rest zero zero d l m e = absurd (omega arith)
-    pairs rest zero (suc j) d l m e = absurd (cc ((or_parts (is_among xs x) (repeats xs) h).0, subst (λ y. is_among xs y ≡ true) (sym e) (among_at xs j d (omega arith))))
+    pairs rest zero (suc j) d l m e =
+        absurd (cc ((or_parts (is_among xs x) (repeats xs) h).0, subst (λ y. is_among xs y ≡ true) (sym e) (among_at xs j d (omega arith))))
     pairs rest (suc i) zero d l m e = absurd (omega arith)
     pairs rest (suc i) (suc j) d l m e = rest i j d (omega arith) (omega arith) e
 
@@ -249,7 +253,8 @@ module _ (w : World) (dirs : List ℕ) where
     are_joined h = (
       first_member dirs h.some,
       repeats_none dirs h.once,
-      λ c d i j. (let k : (chain : List ℕ) × IsChain (IsParentOrChild parent) (Contains dirs) c chain d = h.joined c d (contains_from dirs c i) (contains_from dirs d j) in by_chain k.0 c d (contains_from dirs c i) k.1),
+      λ c d i j. (let k : (chain : List ℕ) × IsChain (IsParentOrChild parent) (Contains dirs) c chain d =
+          h.joined c d (contains_from dirs c i) (contains_from dirs d j) in by_chain k.0 c d (contains_from dirs c i) k.1),
     )
 
   as_chain : {c d : ℕ} → Chain w dirs c d → (chain : List ℕ) × IsChain (IsParentOrChild (parent_in w)) (Contains dirs) c chain d
@@ -279,11 +284,14 @@ promised_connected limit ranks events dirs =
     let tidy : Tidy w = run_tidy events (start limit ranks) (start_tidy limit ranks) in
     (λ h. hangs_together w dirs (tests_sound w tidy dirs h), λ h. tests_complete w tidy dirs (are_joined w dirs (parent_in w) (in_fits w dirs) h))
 
-pub accepts_connected : (w : World) → IsReached w → (parent : ℕ → ℕ) (dirs : List ℕ) → AreParents w dirs parent → HangsTogether parent dirs → AcceptsConnected w dirs
+pub accepts_connected : (w : World) → IsReached w → (parent : ℕ → ℕ) (dirs : List ℕ) → AreParents w dirs parent → HangsTogether parent dirs
+    → AcceptsConnected w dirs
 accepts_connected w reached parent dirs are h = record { passes = passes; accepted = λ from to. never_unconnected w from to dirs passes }
   where
     passes : is_connected w dirs ≡ true
     passes = elim (cases_Bool (is_connected w dirs)) [
       | inl y ↦ y
-      | inr n ↦ absurd (by_tidy w reached (λ tidy. (let y : is_connected w dirs ≡ true = tests_complete w tidy dirs (are_joined w dirs parent (λ d i. inl (are d i)) h) in cc (n, y))))
+      | inr n ↦ absurd (by_tidy w reached
+          (λ tidy. (let y : is_connected w dirs ≡ true = tests_complete w tidy dirs (are_joined w dirs parent (λ d i. inl (are d i)) h) in
+          cc (n, y))))
     ]

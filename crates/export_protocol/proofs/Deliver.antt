@@ -13,7 +13,8 @@ use Rattle.export_protocol.specs.Step.{exporter_to, importer_to, journals, is_st
 use Rattle.export_protocol.proofs.Frame.{finds_exporter, finds_importer}
 use Rattle.export_protocol.proofs.Tables.{together, is_imported}
 use Rattle.export_protocol.proofs.Views.{not_past}
-use Rattle.export_protocol.proofs.Safe.{Safe, message_of, plain_safe, finish_safe, cancel_safe, ack_safe, early_safe, log_safe, import_early_safe, started_safe, dropped_safe, imported_safe}
+use Rattle.export_protocol.proofs.Safe.{Safe, message_of, plain_safe, finish_safe, cancel_safe, ack_safe}
+use Rattle.export_protocol.proofs.Safe.{early_safe, log_safe, import_early_safe, started_safe, dropped_safe, imported_safe}
 use Rattle.std.proofs.lemmas.List.{get_or-set_same}
 
 discovered_pair : (e : ExporterState) → together e Unknown ≡ true → together e Discovered ≡ true
@@ -22,7 +23,8 @@ discovered_pair e h = grind arith
 prepared_pair : (e : ExporterState) → together e Discovered ≡ true → together e Prepared ≡ true
 prepared_pair e h = grind arith
 
-pub ack_started : (i : ImporterState) (b : Bool) → together Exporting i ≡ true → (is_started i || is_imported i || b) ≡ true → (b ≡ true → i ≡ Dropped) → i ≡ Started
+pub ack_started : (i : ImporterState) (b : Bool) → together Exporting i ≡ true → (is_started i || is_imported i || b) ≡ true
+    → (b ≡ true → i ≡ Dropped) → i ≡ Started
 ack_started i b h k l = grind arith
 
 module _ (w : World) (safe : Safe w) (k x : ℕ) where
@@ -32,7 +34,8 @@ module _ (w : World) (safe : Safe w) (k x : ℕ) where
   discover_keeps : x < length w.orders → (s : ImporterState) → importer_of w x ≡ s → Safe (finds_importer w (Discover x) s).world
   discover_keeps n Unknown e =
       plain_safe (importer_to w x Discovered)
-      (import_early_safe w safe x Discovered (near_importer n) (discovered_pair (exporter_of w x) (rw e at (safe.tables.paired x))) (rw e refl) refl (rw e refl) refl (λ d. cc))
+      (import_early_safe w safe x Discovered (near_importer n) (discovered_pair (exporter_of w x) (rw e at (safe.tables.paired x)))
+      (rw e refl) refl (rw e refl) refl (λ d. cc))
       (DiscoverAck x) refl n
   discover_keeps n _ e = safe
 
@@ -44,7 +47,8 @@ module _ (w : World) (safe : Safe w) (k x : ℕ) where
   prep_keeps : x < length w.orders → (s : ImporterState) → importer_of w x ≡ s → Safe (finds_importer w (Prep x) s).world
   prep_keeps n Discovered e =
       plain_safe (importer_to w x Prepared)
-      (import_early_safe w safe x Prepared (near_importer n) (prepared_pair (exporter_of w x) (rw e at (safe.tables.paired x))) (rw e refl) refl (rw e refl) refl (λ d. cc))
+      (import_early_safe w safe x Prepared (near_importer n) (prepared_pair (exporter_of w x) (rw e at (safe.tables.paired x))) (rw e refl)
+      refl (rw e refl) refl (λ d. cc))
       (PrepAck x) refl n
   prep_keeps n _ e = safe
 
@@ -71,7 +75,8 @@ module _ (w : World) (safe : Safe w) (k x : ℕ) where
   finish_keeps m Started e = imported_safe w safe x e (safe.tables.finish k x m)
   finish_keeps m _ e = safe
 
-  cancel_early : message_of w k ≡ Some (Cancel x) → is_imported (importer_of w x) ≡ false → is_started (importer_of w x) ≡ false → Safe (importer_to w x Dropped)
+  cancel_early : message_of w k ≡ Some (Cancel x) → is_imported (importer_of w x) ≡ false → is_started (importer_of w x) ≡ false
+      → Safe (importer_to w x Dropped)
   cancel_early m i s =
       import_early_safe w safe x Dropped (near_importer (safe.tables.known k (Cancel x) m)) (rw (safe.tables.cancel k x m) refl) i refl s refl (λ d. refl)
 

@@ -1,5 +1,6 @@
 -- What an event leaves of the journals, the map and the tree.
-use Rattle.std.proofs.Common.{◌≡◌, ◌≢◌, ℕ, ◌<◌, ◌≤◌, Bool, true, false, eqb, cond, List, [], ◌∷◌, ◌++◌, length, get_or, set, Option, Some, None, refl, sym, ap, ◌∙◌, inl, inr, arith}
+use Rattle.std.proofs.Common.{◌≡◌, ◌≢◌, ℕ, ◌<◌, ◌≤◌, Bool, true, false, eqb, cond, List, [], ◌∷◌, ◌++◌}
+use Rattle.std.proofs.Common.{length, get_or, set, Option, Some, None, refl, sym, ap, ◌∙◌, inl, inr, arith}
 use Rattle.std.specs.List.{slice_get}
 use Rattle.std.proofs.lemmas.Bool.{cases_eq, cases_lt}
 use Rattle.std.proofs.lemmas.List.{get_or-set_other, get_or_past}
@@ -12,11 +13,14 @@ use Rattle.export_protocol.specs.declared.exporter.ExporterState.TheVariants.{Lo
 use Rattle.export_protocol.specs.Cluster.{World}
 use Rattle.export_protocol.specs.Authority.{is_inside, from_of, to_of, exporter_of, importer_of, journal_of, named_of, authority, is_stopped}
 use Rattle.export_protocol.specs.declared.moves.Transition.{Transition}
-use Rattle.export_protocol.specs.Step.{step, refusal, happens, journals, journaled_by, exporter_to, names_importer, receiver, comes, delivered, ignored, changed, restarts, move, moved, acts, about, exporter_moves, importer_moves, notes, replies}
+use Rattle.export_protocol.specs.Step.{step, refusal, happens, journals, journaled_by, exporter_to, names_importer}
+use Rattle.export_protocol.specs.Step.{receiver, comes, delivered, ignored, changed, restarts, move}
+use Rattle.export_protocol.specs.Step.{moved, acts, about, exporter_moves, importer_moves, notes, replies}
 use Rattle.export_protocol.specs.declared.event.Event.{Event}
 use Rattle.export_protocol.specs.declared.event.Event.TheVariants.{Deliver, Notify, Restart}
 use Rattle.export_protocol.specs.View.{IsReached}
-use Rattle.export_protocol.specs.Entries.{Entry, IsRecorded, entered, entered_by, named_by, parents_after, accepted_entry, delivered_entry, comes_entry, move_entry, noted, entry}
+use Rattle.export_protocol.specs.Entries.{Entry, IsRecorded, entered, entered_by, named_by, parents_after}
+use Rattle.export_protocol.specs.Entries.{accepted_entry, delivered_entry, comes_entry, move_entry, noted, entry}
 use Rattle.export_protocol.proofs.Views.{journal_at, journal_other, push_same, push_other, map_at_get, map_at_past}
 use Rattle.export_protocol.proofs.Lookups.{itself}
 use Rattle.export_protocol.proofs.Frame.{delivered_frame, happens_fixed}
@@ -67,7 +71,8 @@ module _ (w : World) (r : ℕ) where
 
       noting : (u : World) (o : Option JournalEntry) → u.journals ≡ w.journals → Grows (notes u a o) (noted a o)
       noting u None j = ap (λ (js : List (List JournalEntry)). get_or js r []) j
-      noting u (Some e) j = written u a e (rw j near) r ∙ ap (λ (js : List (List JournalEntry)). entered r (Some (record { rank = a; entry = e })) (get_or js r [])) j
+      noting u (Some e) j = written u a e (rw j near) r ∙ ap
+          (λ (js : List (List JournalEntry)). entered r (Some (record { rank = a; entry = e })) (get_or js r [])) j
 
       replied : (u : World) (m : Option Message) (o : Option Entry) → Grows u o → Grows (replies u m).world o
       replied u None o h = h
@@ -160,10 +165,6 @@ module _ (w : World) (reached : IsReached w) where
       outside false e l = refl
       outside true e l = (let near : d < length w.named = notify_there w reached x s d e in absurd (omega arith))
 
-  by_named : (o : Option ℕ) (e : JournalEntry) (ps ns : List (Option ℕ)) (d : ℕ) → named_of (record (journaled_by w o e) { parents = ps; named = ns }) d ≡ get_or ns d None
-  by_named None e ps ns d = refl
-  by_named (Some a) e ps ns d = refl
-
   restart_named : (k d : ℕ) (b : Bool) → named_of (cond b (changed (restarts w k)) (ignored w)).world d ≡ named_of w d
   restart_named k d true = refl
   restart_named k d false = refl
@@ -177,7 +178,8 @@ module _ (w : World) (reached : IsReached w) where
       made_named p d (authority w p) (λ a i. numbers_by w reached (length w.parents) (length w.named) (λ safe. safe.numbered))
       (some_rank (authority w p) ((made_has w p h).0, (made_has w p h).1))
   happens_named d (Event.Gone c) h = gone_named c d (authority w c) (some_rank (authority w c) (gone_has w c h))
-  happens_named d (Deliver k) h = ap (λ (ns : List (Option ℕ)). get_or ns d None) (delivered_frame w (slice_get w.sent k)).named ∙ delivered_named w d (slice_get w.sent k)
+  happens_named d (Deliver k) h = ap (λ (ns : List (Option ℕ)). get_or ns d None) (delivered_frame w (slice_get w.sent k)).named
+      ∙ delivered_named w d (slice_get w.sent k)
   happens_named d (Notify x) h = notified_named x d (notify_state w x h)
   happens_named d (Restart k) h = restart_named k d (is_stopped w k)
   happens_named d _ h = refl

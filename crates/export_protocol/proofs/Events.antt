@@ -1,5 +1,6 @@
 -- Each accepted event keeps the invariant.
-use Rattle.std.proofs.Common.{◌≡◌, ◌≢◌, ℕ, zero, suc, ◌+◌, ◌<◌, Bool, true, false, ◌&&◌, ◌||◌, not, eqb, cond, List, [], ◌∷◌, ◌++◌, length, get_or, set, Option, Some, None, refl, sym, ap, ◌∙◌, inl, inr, ◌⊎◌, arith}
+use Rattle.std.proofs.Common.{◌≡◌, ◌≢◌, ℕ, zero, suc, ◌+◌, ◌<◌, Bool, true, false, ◌&&◌, ◌||◌, not, eqb, cond, List, []}
+use Rattle.std.proofs.Common.{◌∷◌, ◌++◌, length, get_or, set, Option, Some, None, refl, sym, ap, ◌∙◌, inl, inr, ◌⊎◌, arith}
 use Rattle.std.specs.Option.{is_some}
 use Rattle.std.specs.List.{slice_get, list_all}
 use Rattle.export_protocol.specs.declared.exporter.ExporterState.{ExporterState}
@@ -11,12 +12,17 @@ use Rattle.mds_types.specs.declared.order.Order.{Order}
 use Rattle.export_protocol.specs.declared.exporter.ExporterState.TheVariants.{Discovering, Freezing, Preparing, Logged, Done, Aborted}
 use Rattle.export_protocol.specs.declared.importer.ImporterState.TheVariants.{Unknown}
 use Rattle.export_protocol.specs.declared.message.Message.TheVariants.{Discover, Prep, Query}
-use Rattle.export_protocol.specs.Authority.{order_in, no_order, is_among, is_inside, from_of, to_of, exporter_of, importer_of, journal_of, named_of, is_present, request_of, is_same, has_entry, has, owned_by, owned_after, owns, is_taking_over, IsAuthority, authority, is_holding, is_held_in, open_export, frozen_by, runs_on}
+use Rattle.export_protocol.specs.Authority.{order_in, no_order, is_among, is_inside, from_of, to_of, exporter_of, importer_of, journal_of}
+use Rattle.export_protocol.specs.Authority.{named_of, is_present, request_of, is_same, has_entry, has, owned_by, owned_after, owns}
+use Rattle.export_protocol.specs.Authority.{is_taking_over, IsAuthority, authority, is_holding, is_held_in, open_export, frozen_by, runs_on}
 use Rattle.export_protocol.specs.declared.event.Event.{Event}
 use Rattle.export_protocol.specs.declared.step_error.StepError.{StepError}
-use Rattle.export_protocol.specs.Step.{first, when, is_freezing, is_logged, not_yet, running_on, busy, held, held_at, elsewhere, not_served, authority_stopped, cannot_leave, least_fault, causes, happens, exporter_to, journals, names_importer}
+use Rattle.export_protocol.specs.Step.{first, when, is_freezing, is_logged, not_yet, running_on, busy}
+use Rattle.export_protocol.specs.Step.{held, held_at, elsewhere, not_served, authority_stopped, cannot_leave, least_fault}
+use Rattle.export_protocol.specs.Step.{causes, happens, exporter_to, journals, names_importer}
 use Rattle.export_protocol.specs.declared.event.Event.TheVariants.{Begin, End, Start, Deliver, Froze, Notify, Abort, Ask}
-use Rattle.export_protocol.proofs.Owning.{Phase, Owning, Running, is_moving, is_over, place, same_owning, same_running, start_owning, start_running, made_owning, made_running, gone_owning, gone_running}
+use Rattle.export_protocol.proofs.Owning.{Phase, Owning, Running, is_moving, is_over, place, same_owning}
+use Rattle.export_protocol.proofs.Owning.{same_running, start_owning, start_running, made_owning, made_running, gone_owning, gone_running}
 use Rattle.export_protocol.proofs.Owning.Phase.{Early, Held, Moving, Told, Over}
 use Rattle.export_protocol.proofs.Tables.{is_committed, is_imported, kept_flag, entry_tables, begun_tables}
 use Rattle.export_protocol.proofs.Views.{push_same, push_other, push_get, length_push, has_adds, owns_at, owns_other}
@@ -63,9 +69,11 @@ none_run dirs [] h t q e = absurd (cc)
 none_run dirs (r ∷ ts) h zero q e = rw e at (uncounted (runs_on dirs r) (number_of (runs_on dirs) ts) h).0
 none_run dirs (r ∷ ts) h (suc t) q e = none_run dirs ts (uncounted (runs_on dirs r) (number_of (runs_on dirs) ts) h).1 t q e
 
-pub no_requests : (w : World) (dirs : List ℕ) → not_yet (running_on w dirs) ≡ None → (t : ℕ) (q : Request) → request_of w t ≡ Some q → is_among dirs q.dir ≡ false
+pub no_requests : (w : World) (dirs : List ℕ) → not_yet (running_on w dirs) ≡ None → (t : ℕ) (q : Request) → request_of w t ≡ Some q
+    → is_among dirs q.dir ≡ false
 no_requests w dirs h =
-    let n : running_on w dirs ≡ 0 = eqb-true (running_on w dirs) 0 (not-false (eqb (running_on w dirs) 0) (not_refused (not (eqb (running_on w dirs) 0)) (StepError.NotYet (running_on w dirs)) h)) in
+    let n : running_on w dirs ≡ 0 = eqb-true (running_on w dirs) 0
+    (not-false (eqb (running_on w dirs) 0) (not_refused (not (eqb (running_on w dirs) 0)) (StepError.NotYet (running_on w dirs)) h)) in
     none_run dirs w.tickets (is_count_by (number_of (runs_on dirs)) (runs_on dirs) refl (λ x xs. refl) w.tickets ∙ n)
 
 module _ (w : World) (safe : Safe w) where
@@ -255,13 +263,15 @@ module _ (w : World) (safe : Safe w) (a p : ℕ) (near : a < length w.journals) 
     | inr m ↦ owns_other w a (JournalEntry.Made (length w.parents)) near r d m
   ]
 
-  made_flag : (r : ℕ) (f : JournalEntry) → is_same (JournalEntry.Made (length w.parents)) f ≡ false → has (journals w a (JournalEntry.Made (length w.parents))) r f ≡ has w r f
+  made_flag : (r : ℕ) (f : JournalEntry) → is_same (JournalEntry.Made (length w.parents)) f ≡ false
+      → has (journals w a (JournalEntry.Made (length w.parents))) r f ≡ has w r f
   made_flag r f e = rw (has_adds w a (JournalEntry.Made (length w.parents)) near r f, e) (kept_flag (has w r f) (eqb r a))
 
   pub made_safe : Safe (record (journals w a (JournalEntry.Made (length w.parents))) { parents = w.parents ++ Some p ∷ []; named = w.named ++ Some a ∷ [] })
   made_safe = record {
     tables = entry_tables _ _ _ _ _ _ _ safe.tables (has (journals w a (JournalEntry.Made (length w.parents))))
-        (λ r x. made_flag r (JournalEntry.Exported x) refl) (λ r x. made_flag r (JournalEntry.Notified x) refl) (λ r x. made_flag r (JournalEntry.Imported x) refl)
+        (λ r x. made_flag r (JournalEntry.Exported x) refl) (λ r x. made_flag r (JournalEntry.Notified x) refl)
+        (λ r x. made_flag r (JournalEntry.Imported x) refl)
         (λ r x. made_flag r (JournalEntry.Started x) refl) (λ r x. made_flag r (JournalEntry.Dropped x) refl);
     owning = made_owning _ _ _ _ _ _ _ _ _ a (length w.parents) safe.owning safe.running made_was made_is made_others made_won
         (λ r d m. owns_other w a (JournalEntry.Made (length w.parents)) near r d m) made_rest;
@@ -327,11 +337,14 @@ module _ (w : World) (safe : Safe w) (a c : ℕ) (near : a < length w.journals) 
   pub gone_safe : Safe (record (journals w a (JournalEntry.Gone c)) { parents = set w.parents c None; named = set w.named c None })
   gone_safe = record {
     tables = entry_tables _ _ _ _ _ _ _ safe.tables (has (journals w a (JournalEntry.Gone c)))
-        (λ r x. gone_flag r (JournalEntry.Exported x) refl) (λ r x. gone_flag r (JournalEntry.Notified x) refl) (λ r x. gone_flag r (JournalEntry.Imported x) refl)
+        (λ r x. gone_flag r (JournalEntry.Exported x) refl) (λ r x. gone_flag r (JournalEntry.Notified x) refl)
+        (λ r x. gone_flag r (JournalEntry.Imported x) refl)
         (λ r x. gone_flag r (JournalEntry.Started x) refl) (λ r x. gone_flag r (JournalEntry.Dropped x) refl);
-    owning = gone_owning _ _ _ _ _ _ _ _ _ a c safe.owning safe.running free ended (safe.owning.owner_named a c owned) (set_none w.named c) gone_others gone_lost
+    owning = gone_owning _ _ _ _ _ _ _ _ _ a c safe.owning safe.running free ended (safe.owning.owner_named a c owned) (set_none w.named c)
+        gone_others gone_lost
         (λ r d m. owns_other w a (JournalEntry.Gone c) near r d m) gone_rest;
-    running = gone_running (is_inside w) (from_of w) (to_of w) _ _ _ _ _ _ a c safe.owning safe.running free ended (safe.owning.owner_named a c owned) (set_none w.named c) gone_others gone_lost
+    running = gone_running (is_inside w) (from_of w) (to_of w) _ _ _ _ _ _ a c safe.owning safe.running free ended
+        (safe.owning.owner_named a c owned) (set_none w.named c) gone_others gone_lost
         (λ r d m. owns_other w a (JournalEntry.Gone c) near r d m) gone_rest;
     present = gone_present;
     numbered = length-set w.parents c None ∙ (safe.numbered ∙ sym (length-set w.named c None));
@@ -357,13 +370,15 @@ pub is_here : (r : ℕ) (o : Option ℕ) → elsewhere r o ≡ None → o ≡ So
 is_here r None h = absurd (cc)
 is_here r (Some a) h = ap Some (eqb-true a r (not-false (eqb a r) (not_refused (not (eqb a r)) (StepError.Elsewhere a) h)))
 
-pub least_none : (w : World) (from : ℕ) (dirs : List ℕ) (n : ℕ) → least_fault w from dirs n ≡ None → (d : ℕ) → d < n → is_among dirs d ≡ true → cannot_leave w from d ≡ None
+pub least_none : (w : World) (from : ℕ) (dirs : List ℕ) (n : ℕ) → least_fault w from dirs n ≡ None → (d : ℕ) → d < n
+    → is_among dirs d ≡ true → cannot_leave w from d ≡ None
 least_none w from dirs zero h d l i = absurd (omega arith)
 least_none w from dirs (suc n) h d l i = elim (cases_lt d n) [
   | inl m ↦ least_none w from dirs n (or_else_none (least_fault w from dirs n) (cond (is_among dirs n) (cannot_leave w from n) None) h).0 d m i
   | inr m ↦
       (let e : d ≡ n = omega arith in
-      rw e (fault (is_among dirs n) (cannot_leave w from n) (rw e at i) (or_else_none (least_fault w from dirs n) (cond (is_among dirs n) (cannot_leave w from n) None) h).1))
+      rw e (fault (is_among dirs n) (cannot_leave w from n) (rw e at i)
+      (or_else_none (least_fault w from dirs n) (cond (is_among dirs n) (cannot_leave w from n) None) h).1))
 ]
   where
     fault : (b : Bool) (o : Option StepError) → b ≡ true → cond b o None ≡ None → o ≡ None
@@ -468,8 +483,10 @@ module _ (w : World) (safe : Safe w) (from to : ℕ) (dirs : List ℕ) (from_nea
 
   pub start_owns : (r d : ℕ) → owns (with_export w from to dirs) r d ≡ owns w r d
   start_owns r d = owned_by_more w.orders (record { from = from; to = to; dirs = dirs }) d false (journal_of w r)
-      (safe.tables.exported r (length w.orders) ∙ no_flag (is_committed (exporter_of w (length w.orders))) (eqb r (from_of w (length w.orders))) (rw was_aborted refl))
-      (safe.tables.imported r (length w.orders) ∙ no_flag (is_imported (importer_of w (length w.orders))) (eqb r (to_of w (length w.orders))) (rw was_unknown refl))
+      (safe.tables.exported r (length w.orders) ∙ no_flag (is_committed (exporter_of w (length w.orders)))
+      (eqb r (from_of w (length w.orders))) (rw was_aborted refl))
+      (safe.tables.imported r (length w.orders) ∙ no_flag (is_imported (importer_of w (length w.orders)))
+      (eqb r (to_of w (length w.orders))) (rw was_unknown refl))
 
   pub start_unused : (d : ℕ) → is_inside w (length w.orders) d ≡ false
   start_unused d = rw (get_or_past w.orders (length w.orders) no_order (omega arith)) refl
@@ -488,7 +505,8 @@ module _ (w : World) (safe : Safe w) (from to : ℕ) (dirs : List ℕ) (from_nea
       same_owning _ _ _ _ _ _ _ _ (request_of w) safe.owning safe.running (λ y. refl) start_owns in
       let running : Running (is_inside w) (phase_of w) (owns (with_export w from to dirs)) (request_of w) =
       same_running _ _ _ _ _ _ _ _ _ safe.owning safe.running (λ y. refl) start_owns in
-      let mine : (d : ℕ) → is_inside (with_export w from to dirs) (length w.orders) d ≡ true → owns (with_export w from to dirs) (from_of (with_export w from to dirs) (length w.orders)) d ≡ true =
+      let mine : (d : ℕ) → is_inside (with_export w from to dirs) (length w.orders) d ≡ true
+      → owns (with_export w from to dirs) (from_of (with_export w from to dirs) (length w.orders)) d ≡ true =
       λ d i. rw (start_from, start_owns from d) (owned d (sym (start_inside d) ∙ i)) in
       let alone : (y d : ℕ) → is_inside (with_export w from to dirs) (length w.orders) d ≡ true → is_inside w y d ≡ true → is_over (phase_of w y) ≡ true =
       λ y d i j. free y d (sym (start_inside d) ∙ i) j in
@@ -498,14 +516,18 @@ module _ (w : World) (safe : Safe w) (from to : ℕ) (dirs : List ℕ) (from_nea
             (exporter_of (with_export w from to dirs)) (importer_of (with_export w from to dirs)) _
             start_froms start_tos start_states start_importers
             (push_get w.sent (Discover (length w.orders))) was_aborted was_unknown start_state);
-        owning = start_owning (is_inside w) (is_inside (with_export w from to dirs)) (from_of w) (to_of w) (from_of (with_export w from to dirs)) (to_of (with_export w from to dirs)) _ _ _ _ (request_of w) (length w.orders)
+        owning = start_owning (is_inside w) (is_inside (with_export w from to dirs)) (from_of w) (to_of w)
+            (from_of (with_export w from to dirs)) (to_of (with_export w from to dirs)) _ _ _ _ (request_of w) (length w.orders)
             owning running start_phase start_phases start_froms start_tos start_insides mine alone start_unused;
-        running = start_running (is_inside w) (is_inside (with_export w from to dirs)) (from_of w) (to_of w) (from_of (with_export w from to dirs)) (to_of (with_export w from to dirs)) _ _ _ (named_of w) _ (length w.orders)
+        running = start_running (is_inside w) (is_inside (with_export w from to dirs)) (from_of w) (to_of w)
+            (from_of (with_export w from to dirs)) (to_of (with_export w from to dirs)) _ _ _ (named_of w) _ (length w.orders)
             owning running start_phase start_phases start_froms start_tos start_insides mine alone start_unused;
         present = safe.present;
         numbered = safe.numbered;
-        exporting = length_push w.exporters Discovering ∙ (ap (λ n. n + 1) safe.exporting ∙ sym (length_push w.orders (record { from = from; to = to; dirs = dirs })));
-        importing = length_push w.importers Unknown ∙ (ap (λ n. n + 1) safe.importing ∙ sym (length_push w.orders (record { from = from; to = to; dirs = dirs })));
+        exporting = length_push w.exporters Discovering
+            ∙ (ap (λ n. n + 1) safe.exporting ∙ sym (length_push w.orders (record { from = from; to = to; dirs = dirs })));
+        importing = length_push w.importers Unknown
+            ∙ (ap (λ n. n + 1) safe.importing ∙ sym (length_push w.orders (record { from = from; to = to; dirs = dirs })));
         ranked = start_ranked;
         all_ranks = safe.all_ranks;
       }

@@ -1,16 +1,20 @@
 -- What the tables by directory find: what freezes a directory, and who serves it.
-use Rattle.std.proofs.Common.{◌≡◌, ◌≢◌, ℕ, ◌<◌, Bool, true, false, ◌&&◌, ◌||◌, not, eqb, length, Some, None, refl, sym, ap, ◌∙◌, inl, inr, arith, zero, suc, Option, subst, ◌⊎◌}
+use Rattle.std.proofs.Common.{◌≡◌, ◌≢◌, ℕ, ◌<◌, Bool, true, false, ◌&&◌, ◌||◌, not, eqb, length, Some}
+use Rattle.std.proofs.Common.{None, refl, sym, ap, ◌∙◌, inl, inr, arith, zero, suc, Option, subst, ◌⊎◌}
 use Rattle.std.proofs.lemmas.Bool.{cases_eq, cases_lt, and_from, and_parts, cases_Bool, not-true, or_cases, or_left, or_parts, or_right}
 use Rattle.export_protocol.specs.declared.exporter.ExporterState.{ExporterState}
 use Rattle.export_protocol.specs.declared.importer.ImporterState.{ImporterState}
 use Rattle.export_protocol.specs.declared.exporter.ExporterState.TheVariants.{Exporting, Logged, Done, Aborted, Discovering, Freezing, Preparing}
 use Rattle.export_protocol.specs.declared.importer.ImporterState.TheVariants.{Prepared, Started, Imported, Dropped}
 use Rattle.export_protocol.specs.Cluster.{World}
-use Rattle.export_protocol.specs.Authority.{is_inside, from_of, to_of, exporter_of, importer_of, owns, authority, is_open, open_export, named_of, IsAuthority, any_below, first_below, is_holding, is_held_in, is_taking_over, serves, frozen_by}
+use Rattle.export_protocol.specs.Authority.{is_inside, from_of, to_of, exporter_of, importer_of, owns}
+use Rattle.export_protocol.specs.Authority.{authority, is_open, open_export, named_of, IsAuthority, any_below}
+use Rattle.export_protocol.specs.Authority.{first_below, is_holding, is_held_in, is_taking_over, serves, frozen_by}
 use Rattle.export_protocol.specs.View.{IsReached}
 use Rattle.export_protocol.proofs.Owning.{is_moving, is_over, Phase, place}
 use Rattle.export_protocol.proofs.Safe.{Safe, phase_by, phase_of}
-use Rattle.export_protocol.proofs.Lookups.{itself, inside_there, any_some, any_here, first_none, first_some, inside_near, authority_is, open_over, taking_over, takes_over, no_open, one_authority, moving_open}
+use Rattle.export_protocol.proofs.Lookups.{itself, inside_there, any_some, any_here, first_none, first_some, inside_near}
+use Rattle.export_protocol.proofs.Lookups.{authority_is, open_over, taking_over, takes_over, no_open, one_authority, moving_open}
 use Rattle.export_protocol.proofs.Owning.Phase.{Told, Over}
 use Rattle.export_protocol.proofs.Authorities.{authority_found, found_or_not}
 use Rattle.export_protocol.proofs.Walks.{authority_near}
@@ -72,7 +76,8 @@ first_same (suc n) f g h = rw (first_same n f g (λ k l. h k (omega arith)), h n
 holding_phase : (e : ExporterState) (i : ImporterState) → is_holding e ≡ true → (is_over (phase_by e i) ≡ false) × (is_moving (phase_by e i) ≡ false)
 holding_phase e i h = (grind arith, grind arith)
 
-held_or_moving : (e : ExporterState) (i : ImporterState) → is_over (phase_by e i) ≡ false → e ≢ Discovering → (is_holding e ≡ true) ⊎ (is_moving (phase_by e i) ≡ true)
+held_or_moving : (e : ExporterState) (i : ImporterState) → is_over (phase_by e i) ≡ false → e ≢ Discovering
+    → (is_holding e ≡ true) ⊎ (is_moving (phase_by e i) ≡ true)
 held_or_moving Discovering i h n = absurd (n refl)
 held_or_moving Freezing i h n = inl refl
 held_or_moving Preparing i h n = inl refl
@@ -109,7 +114,8 @@ module _ (w : World) (safe : Safe w) where
       (is_inside w y d ≡ true) × (is_over (phase_of w y) ≡ false) × (exporter_of w y ≢ Discovering)
   freezes_is r d y h = elim (or_cases (is_held_in w r d y) (is_taking_over w r y && is_inside w y d) h) [
     | inl k ↦
-        (let a : ((eqb (from_of w y) r && is_holding (exporter_of w y)) ≡ true) × (is_inside w y d ≡ true) = and_parts (eqb (from_of w y) r && is_holding (exporter_of w y)) (is_inside w y d) k in
+        (let a : ((eqb (from_of w y) r && is_holding (exporter_of w y)) ≡ true)
+        × (is_inside w y d ≡ true) = and_parts (eqb (from_of w y) r && is_holding (exporter_of w y)) (is_inside w y d) k in
         let b : (eqb (from_of w y) r ≡ true) × (is_holding (exporter_of w y) ≡ true) = and_parts (eqb (from_of w y) r) (is_holding (exporter_of w y)) a.0 in
         (a.1, (holding_phase (exporter_of w y) (importer_of w y) b.1).0, λ e. cc (rw e at b.1)))
     | inr k ↦
@@ -120,18 +126,22 @@ module _ (w : World) (safe : Safe w) where
 
   none_frozen : (r d : ℕ) → open_export w d ≡ None → frozen_by w r d ≡ None
   unfolding frozen_by
-  none_frozen r d e = first_is_none (length w.orders) (λ x. is_held_in w r d x || (is_taking_over w r x && is_inside w x d)) (λ y l. go y (cases_Bool (is_held_in w r d y || (is_taking_over w r y && is_inside w y d))))
+  none_frozen r d e = first_is_none (length w.orders) (λ x. is_held_in w r d x || (is_taking_over w r x && is_inside w x d))
+      (λ y l. go y (cases_Bool (is_held_in w r d y || (is_taking_over w r y && is_inside w y d))))
     where
-      go : (y : ℕ) → ((is_held_in w r d y || (is_taking_over w r y && is_inside w y d)) ≡ true) ⊎ ((is_held_in w r d y || (is_taking_over w r y && is_inside w y d)) ≡ false) →
+      go : (y : ℕ) → ((is_held_in w r d y || (is_taking_over w r y && is_inside w y d)) ≡ true)
+          ⊎ ((is_held_in w r d y || (is_taking_over w r y && is_inside w y d)) ≡ false) →
           (is_held_in w r d y || (is_taking_over w r y && is_inside w y d)) ≡ false
       go y (inr f) = f
       go y (inl t) = (let f = freezes_is r d y t in absurd (cc (no_open w safe d e y f.0, f.1)))
 
   discovering_frozen : (r d x : ℕ) → open_export w d ≡ Some x → exporter_of w x ≡ Discovering → frozen_by w r d ≡ None
   unfolding frozen_by
-  discovering_frozen r d x e k = first_is_none (length w.orders) (λ y. is_held_in w r d y || (is_taking_over w r y && is_inside w y d)) (λ y l. go y (cases_Bool (is_held_in w r d y || (is_taking_over w r y && is_inside w y d))))
+  discovering_frozen r d x e k = first_is_none (length w.orders) (λ y. is_held_in w r d y || (is_taking_over w r y && is_inside w y d))
+      (λ y l. go y (cases_Bool (is_held_in w r d y || (is_taking_over w r y && is_inside w y d))))
     where
-      go : (y : ℕ) → ((is_held_in w r d y || (is_taking_over w r y && is_inside w y d)) ≡ true) ⊎ ((is_held_in w r d y || (is_taking_over w r y && is_inside w y d)) ≡ false) →
+      go : (y : ℕ) → ((is_held_in w r d y || (is_taking_over w r y && is_inside w y d)) ≡ true)
+          ⊎ ((is_held_in w r d y || (is_taking_over w r y && is_inside w y d)) ≡ false) →
           (is_held_in w r d y || (is_taking_over w r y && is_inside w y d)) ≡ false
       go y (inr f) = f
       go y (inl t) =
@@ -170,15 +180,18 @@ module _ (w : World) (safe : Safe w) where
         | inr m ↦
             (let t : is_taking_over w (to_of w x) x ≡ true = takes_over w safe x m in
             let s : to_of w x ≡ r = one_authority w safe (to_of w x) r d (inr (x, t, o.0)) (authority_is w d r a).1 in
-            or_right (is_held_in w r d x) (is_taking_over w r x && is_inside w x d) (and_from (is_taking_over w r x) (is_inside w x d) (subst (λ s. is_taking_over w s x ≡ true) s t) o.0))
+            or_right (is_held_in w r d x) (is_taking_over w r x && is_inside w x d)
+            (and_from (is_taking_over w r x) (is_inside w x d) (subst (λ s. is_taking_over w s x ≡ true) s t) o.0))
       ]
 
   serving : (r d : ℕ) → authority w d ≡ Some r → frozen_by w r d ≡ None → serves w r d ≡ true
   unfolding serves frozen_by
-  serving r d a f = and_from (owns w r d) (not (any_below (length w.orders) (is_held_in w r d))) (owned (authority_is w d r a).1) (unheld (any_below (length w.orders) (is_held_in w r d)) refl)
+  serving r d a f = and_from (owns w r d) (not (any_below (length w.orders) (is_held_in w r d))) (owned (authority_is w d r a).1)
+      (unheld (any_below (length w.orders) (is_held_in w r d)) refl)
     where
       free : (y : ℕ) → y < length w.orders → (is_held_in w r d y ≡ false) × ((is_taking_over w r y && is_inside w y d) ≡ false)
-      free y l = or_parts (is_held_in w r d y) (is_taking_over w r y && is_inside w y d) (first_none (length w.orders) (λ x. is_held_in w r d x || (is_taking_over w r x && is_inside w x d)) f y l)
+      free y l = or_parts (is_held_in w r d y) (is_taking_over w r y && is_inside w y d)
+          (first_none (length w.orders) (λ x. is_held_in w r d x || (is_taking_over w r x && is_inside w x d)) f y l)
 
       owned : IsAuthority w r d → owns w r d ≡ true
       owned (inl o) = o
@@ -186,12 +199,14 @@ module _ (w : World) (safe : Safe w) where
 
       unheld : (b : Bool) → any_below (length w.orders) (is_held_in w r d) ≡ b → not b ≡ true
       unheld false e = refl
-      unheld true e = (let g : (k : ℕ) × (k < length w.orders) × (is_held_in w r d k ≡ true) = any_some (length w.orders) (is_held_in w r d) e in absurd (cc (g.2, (free g.0 g.1).0)))
+      unheld true e = (let g : (k : ℕ) × (k < length w.orders)
+          × (is_held_in w r d k ≡ true) = any_some (length w.orders) (is_held_in w r d) e in absurd (cc (g.2, (free g.0 g.1).0)))
 
   not_serving : (r d x : ℕ) → frozen_by w r d ≡ Some x → serves w r d ≡ false
   unfolding serves frozen_by
   not_serving r d x f =
-      let s : (x < length w.orders) × ((is_held_in w r d x || (is_taking_over w r x && is_inside w x d)) ≡ true) = first_some (length w.orders) (λ y. is_held_in w r d y || (is_taking_over w r y && is_inside w y d)) x f in
+      let s : (x < length w.orders) × ((is_held_in w r d x || (is_taking_over w r x && is_inside w x d)) ≡ true) =
+      first_some (length w.orders) (λ y. is_held_in w r d y || (is_taking_over w r y && is_inside w y d)) x f in
       elim (or_cases (is_held_in w r d x) (is_taking_over w r x && is_inside w x d) s.1) [
         | inl h ↦ second (owns w r d) (any_below (length w.orders) (is_held_in w r d)) (any_here (length w.orders) (is_held_in w r d) x s.0 h)
         | inr t ↦

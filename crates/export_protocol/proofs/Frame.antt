@@ -65,9 +65,12 @@ replies_frame w (Some m) = record { tickets = refl; parents = refl; stopped = re
 moved_frame : (w : World) (x r : ℕ) (v : Transition) → Framed w (moved w x r v).world
 moved_frame w x r v =
     both w (exporter_moves w x v.exporter) (moved w x r v).world (exporter_frame w x v.exporter)
-    (both (exporter_moves w x v.exporter) (importer_moves (exporter_moves w x v.exporter) x v.importer) (moved w x r v).world (importer_frame (exporter_moves w x v.exporter) x v.importer)
-    (both (importer_moves (exporter_moves w x v.exporter) x v.importer) (notes (importer_moves (exporter_moves w x v.exporter) x v.importer) r v.entry) (moved w x r v).world
-    (notes_frame (importer_moves (exporter_moves w x v.exporter) x v.importer) r v.entry) (replies_frame (notes (importer_moves (exporter_moves w x v.exporter) x v.importer) r v.entry) v.sends)))
+    (both (exporter_moves w x v.exporter) (importer_moves (exporter_moves w x v.exporter) x v.importer) (moved w x r v).world
+    (importer_frame (exporter_moves w x v.exporter) x v.importer)
+    (both (importer_moves (exporter_moves w x v.exporter) x v.importer)
+    (notes (importer_moves (exporter_moves w x v.exporter) x v.importer) r v.entry) (moved w x r v).world
+    (notes_frame (importer_moves (exporter_moves w x v.exporter) x v.importer) r v.entry)
+    (replies_frame (notes (importer_moves (exporter_moves w x v.exporter) x v.importer) r v.entry) v.sends)))
 
 module _ (w : World) where
   acts_frame : (m : Message) (o : Option Transition) → Framed w (acts w m o).world
@@ -104,12 +107,16 @@ by_ranks w (Some a) e = refl
 
 pub happens_fixed : (w : World) (e : Event) → Fixed w (happens w e).world
 unfolding happens
-happens_fixed w (Deliver k) = (let f : Framed w (delivered w (slice_get w.sent k)).world = delivered_frame w (slice_get w.sent k) in record { limit = f.limit; ranks = f.ranks })
+happens_fixed w (Deliver k) = (let f : Framed w (delivered w (slice_get w.sent k)).world = delivered_frame w (slice_get w.sent k) in
+    record { limit = f.limit; ranks = f.ranks })
 happens_fixed w (Restart k) = go (is_stopped w k)
   where
     go : (b : Bool) → Fixed w (cond b (changed (restarts w k)) (ignored w)).world
     go true = record { limit = refl; ranks = refl }
     go false = fixed w
-happens_fixed w (Event.Made p) = record { limit = by_limit w (authority w p) (JournalEntry.Made (length w.parents)); ranks = by_ranks w (authority w p) (JournalEntry.Made (length w.parents)) }
+happens_fixed w (Event.Made p) = record {
+  limit = by_limit w (authority w p) (JournalEntry.Made (length w.parents));
+  ranks = by_ranks w (authority w p) (JournalEntry.Made (length w.parents));
+}
 happens_fixed w (Event.Gone d) = record { limit = by_limit w (authority w d) (JournalEntry.Gone d); ranks = by_ranks w (authority w d) (JournalEntry.Gone d) }
 happens_fixed w _ = record { limit = refl; ranks = refl }

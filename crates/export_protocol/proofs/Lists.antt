@@ -1,5 +1,6 @@
 -- Members of lists, and lists without a faulty one.
-use Rattle.std.proofs.Common.{◌≡◌, ℕ, zero, suc, ◌+◌, ◌<◌, Bool, true, false, ◌||◌, eqb, cond, List, [], ◌∷◌, ◌++◌, length, get_or, take, Option, None, refl, sym, ap, ◌∙◌, arith}
+use Rattle.std.proofs.Common.{◌≡◌, ℕ, zero, suc, ◌+◌, ◌<◌, Bool, true, false, ◌||◌, eqb, cond, List}
+use Rattle.std.proofs.Common.{[], ◌∷◌, ◌++◌, length, get_or, take, Option, None, refl, sym, ap, ◌∙◌, arith}
 use Rattle.std.proofs.lemmas.Bool.{or_left, or_right}
 use Rattle.export_protocol.specs.Cluster.{World}
 use Rattle.export_protocol.specs.Authority.{is_among, or_else}
@@ -40,7 +41,8 @@ cond_none false o h = refl
 pub none_else : {A : Type 0} (a b c : Option A) → a ≡ None → b ≡ c → or_else a b ≡ c
 none_else a b c h k = rw h k
 
-pub no_fault : (w : World) (from : ℕ) (dirs : List ℕ) (n : ℕ) → ((d : ℕ) → d < n → is_among dirs d ≡ true → cannot_leave w from d ≡ None) → least_fault w from dirs n ≡ None
+pub no_fault : (w : World) (from : ℕ) (dirs : List ℕ) (n : ℕ) → ((d : ℕ) → d < n → is_among dirs d ≡ true → cannot_leave w from d ≡ None)
+    → least_fault w from dirs n ≡ None
 no_fault w from dirs zero h = refl
 no_fault w from dirs (suc n) h =
     none_else (least_fault w from dirs n) (cond (is_among dirs n) (cannot_leave w from n) None) None (no_fault w from dirs n (λ d l i. h d (omega arith) i))

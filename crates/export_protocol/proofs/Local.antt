@@ -1,5 +1,6 @@
 -- Events are accepted by what one rank knows.
-use Rattle.std.proofs.Common.{◌≡◌, ◌≢◌, ◌↔◌, ℕ, suc, ◌<◌, Bool, true, false, ◌&&◌, not, eqb, leb, List, [], ◌∷◌, length, get_or, Option, Some, None, refl, sym, ap, ◌∙◌, inl, inr, arith}
+use Rattle.std.proofs.Common.{◌≡◌, ◌≢◌, ◌↔◌, ℕ, suc, ◌<◌, Bool, true, false, ◌&&◌, not, eqb, leb, List}
+use Rattle.std.proofs.Common.{[], ◌∷◌, length, get_or, Option, Some, None, refl, sym, ap, ◌∙◌, inl, inr, arith}
 use Rattle.std.specs.List.{list_all}
 use Rattle.std.proofs.lemmas.Bool.{cases_Bool, and_from, and_parts, leb-false, not-false}
 use Rattle.std.proofs.lemmas.List.Recursion.{is_count_by}
@@ -9,8 +10,10 @@ use Rattle.export_protocol.specs.declared.exporter.ExporterState.TheVariants.{Fr
 use Rattle.export_protocol.specs.declared.event.Request.{Request}
 use Rattle.export_protocol.specs.declared.step_error.StepError.{StepError}
 use Rattle.export_protocol.specs.Cluster.{World}
-use Rattle.export_protocol.specs.Authority.{is_among, is_inside, from_of, to_of, exporter_of, importer_of, order_in, named_of, is_present, request_of, owns, serves, is_stopped, authority, open_export, frozen_by, IsAuthority, runs_on}
-use Rattle.export_protocol.specs.Step.{refusal, causes, first, when, held_at, busy, not_served, authority_stopped, not_yet, late, running_on, is_freezing, is_before_log, is_connected, cannot_leave, history_limit}
+use Rattle.export_protocol.specs.Authority.{is_among, is_inside, from_of, to_of, exporter_of, importer_of, order_in, named_of, is_present}
+use Rattle.export_protocol.specs.Authority.{request_of, owns, serves, is_stopped, authority, open_export, frozen_by, IsAuthority, runs_on}
+use Rattle.export_protocol.specs.Step.{refusal, causes, first, when, held_at, busy, not_served, authority_stopped}
+use Rattle.export_protocol.specs.Step.{not_yet, late, running_on, is_freezing, is_before_log, is_connected, cannot_leave, history_limit}
 use Rattle.export_protocol.specs.declared.event.Event.{Event}
 use Rattle.export_protocol.specs.declared.event.Event.TheVariants.{Begin, Start, Froze}
 use Rattle.export_protocol.specs.View.{IsReached}
@@ -57,11 +60,13 @@ none_stands (o ∷ os) h = pass o os h.0 (none_stands os h.1)
 accepted : (w : World) (e : Event) → w.events < history_limit → NoneOf (causes w e) → refusal w e ≡ None
 unfolding refusal
 accepted w e few h =
-    pass (when (leb history_limit w.events) StepError.HistoryFull) (causes w e) (unmet (leb history_limit w.events) StepError.HistoryFull (above history_limit w.events few)) (none_stands (causes w e) h)
+    pass (when (leb history_limit w.events) StepError.HistoryFull) (causes w e)
+    (unmet (leb history_limit w.events) StepError.HistoryFull (above history_limit w.events few)) (none_stands (causes w e) h)
 
 -- requests
 
-uncounted : (dirs : List ℕ) (ts : List (Option Request)) → ((t : ℕ) (q : Request) → get_or ts t None ≡ Some q → is_among dirs q.dir ≡ false) → number_of (runs_on dirs) ts ≡ 0
+uncounted : (dirs : List ℕ) (ts : List (Option Request)) → ((t : ℕ) (q : Request) → get_or ts t None ≡ Some q → is_among dirs q.dir ≡ false)
+    → number_of (runs_on dirs) ts ≡ 0
 uncounted dirs [] h = refl
 uncounted dirs (None ∷ ts) h = uncounted dirs ts (λ t q e. h (suc t) q e)
 uncounted dirs (Some q ∷ ts) h = rw (h 0 q refl) (uncounted dirs ts (λ t p e. h (suc t) p e))
@@ -120,7 +125,9 @@ module _ (w : World) (safe : Safe w) where
         | inl m ↦ cc (safe.owning.moving x r d i.0 m, owned)
         | inr m ↦
             (let placed : named_of w d ≡ Some (place (from_of w x) (to_of w x) (phase_of w x)) = safe.owning.placed x d i.0 i.1 in
-            let f : from_of w x ≡ r = same_some (from_of w x) r (ap Some (sym (place_early (phase_of w x) (from_of w x) (to_of w x) m)) ∙ (sym placed ∙ safe.owning.owner_named r d owned)) in
+            let f : from_of w x ≡ r = same_some (from_of w x) r
+            (ap Some (sym (place_early (phase_of w x) (from_of w x) (to_of w x) m))
+            ∙ (sym placed ∙ safe.owning.owner_named r d owned)) in
             let here : is_leaving w r d ≡ true =
             any_here (length w.orders) (λ y. eqb (from_of w y) r && is_before_log (exporter_of w y) && is_inside w y d) x (inside_near w x d i.0)
             (rw (f, itself r, before_is (exporter_of w x) (importer_of w x) i.1 m, i.0) refl) in
@@ -179,7 +186,10 @@ module _ (w : World) (reached : IsReached w) where
       from m =
           let s : (authority w d ≡ Some r) × (frozen_by w r d ≡ None) = serves_is r d m.serves in
           let n : not_served w r d (authority w d) ≡ None = rw (s.0, itself r, s.1) refl in
-          accepted w (Begin r d) m.few (unmet _ StepError.NoRank (above w.ranks r m.up.0), (unmet _ (StepError.Stopped r) m.up.1, (met _ StepError.NoDir (there r d s.0), (n, tt))))
+          accepted w (Begin r d) m.few (
+            unmet _ StepError.NoRank (above w.ranks r m.up.0),
+            (unmet _ (StepError.Stopped r) m.up.1, (met _ StepError.NoDir (there r d s.0), (n, tt))),
+          )
 
   -- Made
 
@@ -190,15 +200,25 @@ module _ (w : World) (reached : IsReached w) where
       to : refusal w (Event.Made p) ≡ None → (r : ℕ) × MayMake w p r
       to h =
           let a : (a : ℕ) × (authority w p ≡ Some a) × (frozen_by w a p ≡ None) = made_has w p h in
-          let c : authority_stopped w (Some a.0) ≡ None = rw a.1 at (not_refused_causes w (Event.Made p) h).1.1.1.0 in
-          (a.0, record { few = room_left w (Event.Made p) h; numbers = made_few w p h; up = (near a.0 p a.1, runs_at a.0 c); serves = sym (found_serving w reached a.0 p a.1 a.2) })
+          let c : authority_stopped w (Some a.0) ≡ None = rw a.1 at (not_refused_causes w (Event.Made p) h).1.1.1.0 in (
+            a.0,
+            record {
+              few = room_left w (Event.Made p) h;
+              numbers = made_few w p h;
+              up = (near a.0 p a.1, runs_at a.0 c);
+              serves = sym (found_serving w reached a.0 p a.1 a.2);
+            },
+          )
 
       from : ((r : ℕ) × MayMake w p r) → refusal w (Event.Made p) ≡ None
       from m =
           let s : (authority w p ≡ Some m.0) × (frozen_by w m.0 p ≡ None) = serves_is m.0 p m.1.serves in
           let k : held_at w p (authority w p) ≡ None = rw (s.0, s.1) refl in
           let n : authority_stopped w (authority w p) ≡ None = rw s.0 (unmet (is_stopped w m.0) (StepError.Stopped m.0) m.1.up.1) in
-          accepted w (Event.Made p) m.1.few (met _ StepError.NoDir (there m.0 p s.0), (unmet _ StepError.TreeFull (above w.limit (length w.parents) m.1.numbers), (k, (n, tt))))
+          accepted w (Event.Made p) m.1.few (
+            met _ StepError.NoDir (there m.0 p s.0),
+            (unmet _ StepError.TreeFull (above w.limit (length w.parents) m.1.numbers), (k, (n, tt))),
+          )
 
   -- Gone
 
@@ -226,14 +246,21 @@ module _ (w : World) (reached : IsReached w) where
           let a : authority w d ≡ Some m.0 = free_authority m.0 d m.1.free in
           let b : busy (open_export w d) ≡ None = rw (free_closed m.0 d m.1.free) refl in
           let n : authority_stopped w (authority w d) ≡ None = rw a (unmet (is_stopped w m.0) (StepError.Stopped m.0) m.1.up.1) in
-          accepted w (Event.Gone d) m.1.few (unmet _ StepError.IsRoot (apart d 0 m.1.below), (met _ StepError.NoDir (there m.0 d a), (unmet _ StepError.NotEmpty m.1.empty, (b, (unrequested w (d ∷ []) (idle a), (n, tt))))))
+          accepted w (Event.Gone d) m.1.few (
+            unmet _ StepError.IsRoot (apart d 0 m.1.below),
+            (
+              met _ StepError.NoDir (there m.0 d a),
+              (unmet _ StepError.NotEmpty m.1.empty, (b, (unrequested w (d ∷ []) (idle a), (n, tt)))),
+            ),
+          )
         where
           idle : authority w d ≡ Some m.0 → (t : ℕ) (q : Request) → request_of w t ≡ Some q → is_among (d ∷ []) q.dir ≡ false
           idle a t q e = elim (cases_Bool (is_among (d ∷ []) q.dir)) [
             | inr n ↦ n
             | inl i ↦
                 (let s : q.dir ≡ d = only d q.dir i in
-                let r : q.rank ≡ m.0 = same_some q.rank m.0 (sym ((reached_found w reached q.rank q.dir).1 (reached_requests w reached t q e)) ∙ (ap (authority w) s ∙ a)) in
+                let r : q.rank ≡ m.0 = same_some q.rank m.0
+                (sym ((reached_found w reached q.rank q.dir).1 (reached_requests w reached t q e)) ∙ (ap (authority w) s ∙ a)) in
                 m.1.idle t q e r)
           ]
             where
@@ -270,8 +297,28 @@ module _ (w : World) (reached : IsReached w) where
           }
 
       back : MayStart w from to dirs → refusal w (Start from to dirs) ≡ None
-      back m = accepted w (Start from to dirs) m.few
-          (unmet _ StepError.NoRank (above w.ranks from m.up.0), (unmet _ StepError.NoRank (above w.ranks to m.is_rank), (unmet _ (StepError.Stopped from) m.up.1, (unmet _ StepError.SameRank (apart from to m.other), (met _ StepError.NoDir m.there, (met _ StepError.NotConnected m.connected, (no_fault w from dirs (length w.parents) (λ d l i. leave from d (m.free d i)), (unmet _ StepError.ExportsFull (above 65536 (length w.orders) m.numbers), tt))))))))
+      back m = accepted w (Start from to dirs) m.few (
+        unmet _ StepError.NoRank (above w.ranks from m.up.0),
+        (
+          unmet _ StepError.NoRank (above w.ranks to m.is_rank),
+          (
+            unmet _ (StepError.Stopped from) m.up.1,
+            (
+              unmet _ StepError.SameRank (apart from to m.other),
+              (
+                met _ StepError.NoDir m.there,
+                (
+                  met _ StepError.NotConnected m.connected,
+                  (
+                    no_fault w from dirs (length w.parents) (λ d l i. leave from d (m.free d i)),
+                    (unmet _ StepError.ExportsFull (above 65536 (length w.orders) m.numbers), tt),
+                  ),
+                ),
+              ),
+            ),
+          ),
+        ),
+      )
 
   -- Froze
 
@@ -293,7 +340,10 @@ module _ (w : World) (reached : IsReached w) where
       from : MayFreeze w x → refusal w (Froze x) ≡ None
       from m =
           let l : late (is_freezing (exporter_of w x)) (exporter_of w x) ≡ None = rw m.freezing refl in
-          accepted w (Froze x) m.few (unmet _ StepError.NoExport (above (length w.orders) x m.started), (unmet _ (StepError.Stopped (from_of w x)) m.up, (l, (unrequested w (order_in w.orders x).dirs idle, tt))))
+          accepted w (Froze x) m.few (
+            unmet _ StepError.NoExport (above (length w.orders) x m.started),
+            (unmet _ (StepError.Stopped (from_of w x)) m.up, (l, (unrequested w (order_in w.orders x).dirs idle, tt))),
+          )
         where
           idle : (t : ℕ) (q : Request) → request_of w t ≡ Some q → is_among (order_in w.orders x).dirs q.dir ≡ false
           idle t q e = elim (cases_Bool (is_among (order_in w.orders x).dirs q.dir)) [

@@ -1,12 +1,15 @@
 -- What the reads of a world say where the invariant holds.
-use Rattle.std.proofs.Common.{◌≡◌, ℕ, ◌-◌, ◌<◌, Bool, true, false, ◌&&◌, ◌||◌, not, eqb, cond, [], length, Option, Some, None, refl, sym, ap, ◌∙◌, inl, inr, arith, zero, suc}
+use Rattle.std.proofs.Common.{◌≡◌, ℕ, ◌-◌, ◌<◌, Bool, true, false, ◌&&◌, ◌||◌, not, eqb, cond, []}
+use Rattle.std.proofs.Common.{length, Option, Some, None, refl, sym, ap, ◌∙◌, inl, inr, arith, zero, suc}
 use Rattle.std.proofs.lemmas.Bool.{cases_lt, and_parts, cases_Bool, eqb-true, and_from, or_cases, or_left, or_right}
 use Rattle.std.proofs.lemmas.List.{get_or_past}
 use Rattle.export_protocol.specs.declared.exporter.ExporterState.{ExporterState}
 use Rattle.export_protocol.specs.declared.importer.ImporterState.{ImporterState}
 use Rattle.export_protocol.specs.declared.journal.JournalEntry.{JournalEntry}
 use Rattle.export_protocol.specs.Cluster.{World}
-use Rattle.export_protocol.specs.Authority.{no_order, is_among, is_inside, from_of, to_of, exporter_of, importer_of, named_of, has, authority, first_below, is_open, is_aborted, open_export, owns, is_importing, is_taking_over, IsAuthority, any_below, or_else, is_authority}
+use Rattle.export_protocol.specs.Authority.{no_order, is_among, is_inside, from_of, to_of, exporter_of, importer_of}
+use Rattle.export_protocol.specs.Authority.{named_of, has, authority, first_below, is_open, is_aborted, open_export}
+use Rattle.export_protocol.specs.Authority.{owns, is_importing, is_taking_over, IsAuthority, any_below, or_else, is_authority}
 use Rattle.export_protocol.specs.Step.{is_before_log, is_started}
 use Rattle.export_protocol.proofs.Owning.{is_over, place, Phase, is_moving}
 use Rattle.export_protocol.proofs.Safe.{Safe, phase_by, phase_of}
@@ -84,7 +87,8 @@ open_phase e i h = grind arith
 taking_phase : (e : ExporterState) (i : ImporterState) → is_started i ≡ true → is_committed e ≡ true → is_moving (phase_by e i) ≡ true
 taking_phase e i h k = grind arith
 
-moving_states : (e : ExporterState) (i : ImporterState) → together e i ≡ true → is_moving (phase_by e i) ≡ true → (is_started i ≡ true) × (is_committed e ≡ true)
+moving_states : (e : ExporterState) (i : ImporterState) → together e i ≡ true → is_moving (phase_by e i) ≡ true
+    → (is_started i ≡ true) × (is_committed e ≡ true)
 moving_states e i h k = (grind arith, grind arith)
 
 pub moving_open : (p : Phase) → is_moving p ≡ true → is_over p ≡ false
@@ -117,15 +121,18 @@ module _ (w : World) (safe : Safe w) where
 
   pub taking_over : (r x : ℕ) → is_taking_over w r x ≡ true → (r ≡ to_of w x) × (is_moving (phase_of w x) ≡ true)
   taking_over r x h =
-      let a : (is_importing w r x ≡ true) × (has w (from_of w x) (JournalEntry.Exported x) ≡ true) = and_parts (is_importing w r x) (has w (from_of w x) (JournalEntry.Exported x)) h in
-      let b : (eqb r (to_of w x) ≡ true) × (is_started (importer_of w x) ≡ true) = and_parts (eqb r (to_of w x)) (is_started (importer_of w x)) (rw (safe.tables.importing r x) at a.0) in
+      let a : (is_importing w r x ≡ true) × (has w (from_of w x) (JournalEntry.Exported x) ≡ true) =
+      and_parts (is_importing w r x) (has w (from_of w x) (JournalEntry.Exported x)) h in
+      let b : (eqb r (to_of w x) ≡ true) × (is_started (importer_of w x) ≡ true) =
+      and_parts (eqb r (to_of w x)) (is_started (importer_of w x)) (rw (safe.tables.importing r x) at a.0) in
       let c : (eqb (from_of w x) (from_of w x) ≡ true) × (is_committed (exporter_of w x) ≡ true) =
       and_parts (eqb (from_of w x) (from_of w x)) (is_committed (exporter_of w x)) (rw (safe.tables.exported (from_of w x) x) at a.1) in
       (eqb-true r (to_of w x) b.0, taking_phase (exporter_of w x) (importer_of w x) b.1 c.1)
 
   pub takes_over : (x : ℕ) → is_moving (phase_of w x) ≡ true → is_taking_over w (to_of w x) x ≡ true
   takes_over x h =
-      let s : (is_started (importer_of w x) ≡ true) × (is_committed (exporter_of w x) ≡ true) = moving_states (exporter_of w x) (importer_of w x) (safe.tables.paired x) h in
+      let s : (is_started (importer_of w x) ≡ true) × (is_committed (exporter_of w x) ≡ true) =
+      moving_states (exporter_of w x) (importer_of w x) (safe.tables.paired x) h in
       let a : is_importing w (to_of w x) x ≡ true = rw (safe.tables.importing (to_of w x) x, itself (to_of w x), s.0) refl in
       let b : has w (from_of w x) (JournalEntry.Exported x) ≡ true = rw (safe.tables.exported (from_of w x) x, itself (from_of w x), s.1) refl in
       and_from (is_importing w (to_of w x) x) (has w (from_of w x) (JournalEntry.Exported x)) a b

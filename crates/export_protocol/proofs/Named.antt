@@ -4,7 +4,8 @@ use Rattle.export_protocol.specs.declared.step_error.StepError.{StepError}
 use Rattle.export_protocol.specs.declared.step_error.StepError.TheVariants.{Memory, NotConnected}
 use Rattle.export_protocol.specs.Cluster.{World}
 use Rattle.export_protocol.specs.Authority.{authority, open_export, frozen_by, is_among, or_else}
-use Rattle.export_protocol.specs.Step.{refusal, causes, first, when, busy, held, held_at, elsewhere, authority_stopped, not_served, cannot_leave, least_fault, is_connected, history_limit}
+use Rattle.export_protocol.specs.Step.{refusal, causes, first, when, busy, held, held_at}
+use Rattle.export_protocol.specs.Step.{elsewhere, authority_stopped, not_served, cannot_leave, least_fault, is_connected, history_limit}
 use Rattle.export_protocol.specs.declared.event.Event.{Event}
 use Rattle.export_protocol.specs.declared.event.Event.TheVariants.{Begin, End, Start, Deliver, Froze, Notify, Abort, Stop, Restart, Ask}
 
@@ -29,7 +30,8 @@ when_other error true r n = λ e. n (cc)
 when_other error false r n = λ e. cc
 
 -- why a directory can't leave
-module _ (error : StepError) (no_dir : StepError.NoDir ≢ error) (other_busy : (x : ℕ) → StepError.Busy x ≢ error) (other_rank : (r : ℕ) → StepError.Elsewhere r ≢ error) (w : World) where
+module _ (error : StepError) (no_dir : StepError.NoDir ≢ error) (other_busy : (x : ℕ) → StepError.Busy x ≢ error)
+    (other_rank : (r : ℕ) → StepError.Elsewhere r ≢ error) (w : World) where
   busy_other : (o : Option ℕ) → IsOther error (busy o)
   busy_other None = λ e. cc
   busy_other (Some x) = λ e. other_busy x (cc)
@@ -39,11 +41,13 @@ module _ (error : StepError) (no_dir : StepError.NoDir ≢ error) (other_busy : 
   elsewhere_other r (Some a) = when_other error (not (eqb a r)) (StepError.Elsewhere a) (other_rank a)
 
   leave_other : (from d : ℕ) → IsOther error (cannot_leave w from d)
-  leave_other from d = first_other error (busy (open_export w d) ∷ elsewhere from (authority w d) ∷ []) (busy_other (open_export w d), (elsewhere_other from (authority w d), tt))
+  leave_other from d = first_other error (busy (open_export w d) ∷ elsewhere from (authority w d) ∷ [])
+      (busy_other (open_export w d), (elsewhere_other from (authority w d), tt))
 
   least_other : (from : ℕ) (dirs : List ℕ) (n : ℕ) → IsOther error (least_fault w from dirs n)
   least_other from dirs zero = λ e. cc
-  least_other from dirs (suc n) = either_other error (least_fault w from dirs n) (cond (is_among dirs n) (cannot_leave w from n) None) (least_other from dirs n) (go (is_among dirs n))
+  least_other from dirs (suc n) = either_other error (least_fault w from dirs n) (cond (is_among dirs n) (cannot_leave w from n) None)
+      (least_other from dirs n) (go (is_among dirs n))
     where
       go : (b : Bool) → IsOther error (cond b (cannot_leave w from n) None)
       go true = leave_other from n
@@ -89,7 +93,10 @@ module _ (w : World) where
 
   causes_named : (e : Event) → AreNamed (causes w e)
   unfolding causes
-  causes_named (Event.Made p) = (when_named _ StepError.NoDir (λ e. cc), (when_named _ StepError.TreeFull (λ e. cc), (held_at_named p (authority w p), (stopped_named (authority w p), tt))))
+  causes_named (Event.Made p) = (
+    when_named _ StepError.NoDir (λ e. cc),
+    (when_named _ StepError.TreeFull (λ e. cc), (held_at_named p (authority w p), (stopped_named (authority w p), tt))),
+  )
   causes_named (Event.Gone d) = (
     when_named _ StepError.IsRoot (λ e. cc),
     (
@@ -100,8 +107,10 @@ module _ (w : World) where
       ),
     ),
   )
-  causes_named (Begin r d) =
-      (when_named _ StepError.NoRank (λ e. cc), (when_named _ (StepError.Stopped r) (λ e. cc), (when_named _ StepError.NoDir (λ e. cc), (served_named r d (authority w d), tt))))
+  causes_named (Begin r d) = (
+    when_named _ StepError.NoRank (λ e. cc),
+    (when_named _ (StepError.Stopped r) (λ e. cc), (when_named _ StepError.NoDir (λ e. cc), (served_named r d (authority w d), tt))),
+  )
   causes_named (End t) = (when_named _ StepError.NoTicket (λ e. cc), tt)
   causes_named (Start from to dirs) = (
     when_named _ StepError.NoRank (λ e. cc),
@@ -111,7 +120,13 @@ module _ (w : World) where
         when_named _ (StepError.Stopped from) (λ e. cc),
         (
           when_named _ StepError.SameRank (λ e. cc),
-          (when_named _ StepError.NoDir (λ e. cc), (when_named _ StepError.NotConnected (λ e. cc), (least_named from dirs (length w.parents), (when_named _ StepError.ExportsFull (λ e. cc), tt)))),
+          (
+            when_named _ StepError.NoDir (λ e. cc),
+            (
+              when_named _ StepError.NotConnected (λ e. cc),
+              (least_named from dirs (length w.parents), (when_named _ StepError.ExportsFull (λ e. cc), tt)),
+            ),
+          ),
         ),
       ),
     ),
@@ -126,12 +141,38 @@ module _ (w : World) where
 
   pub never_memory : (e : Event) → refusal w e ≢ Some Memory
   unfolding refusal
-  never_memory e = first_other Memory (when (leb history_limit w.events) StepError.HistoryFull ∷ causes w e) (when_named (leb history_limit w.events) StepError.HistoryFull (λ k. cc), causes_named e)
+  never_memory e = first_other Memory (when (leb history_limit w.events) StepError.HistoryFull ∷ causes w e)
+      (when_named (leb history_limit w.events) StepError.HistoryFull (λ k. cc), causes_named e)
 
   -- a connected list is refused only for other causes
   pub never_unconnected : (from to : ℕ) (dirs : List ℕ) → is_connected w dirs ≡ true → refusal w (Start from to dirs) ≢ Some NotConnected
   unfolding refusal causes
-  never_unconnected from to dirs connected = first_other NotConnected (when (leb history_limit w.events) StepError.HistoryFull ∷ causes w (Start from to dirs)) (other _ StepError.HistoryFull (λ e. cc), (other _ StepError.NoRank (λ e. cc), (other _ StepError.NoRank (λ e. cc), (other _ (StepError.Stopped from) (λ e. cc), (other _ StepError.SameRank (λ e. cc), (other _ StepError.NoDir (λ e. cc), (passed (is_connected w dirs) connected, (least_other NotConnected (λ e. cc) (λ x e. cc) (λ r e. cc) w from dirs (length w.parents), (other _ StepError.ExportsFull (λ e. cc), tt)))))))))
+  never_unconnected from to dirs connected = first_other NotConnected
+      (when (leb history_limit w.events) StepError.HistoryFull ∷ causes w (Start from to dirs)) (
+        other _ StepError.HistoryFull (λ e. cc),
+        (
+          other _ StepError.NoRank (λ e. cc),
+          (
+            other _ StepError.NoRank (λ e. cc),
+            (
+              other _ (StepError.Stopped from) (λ e. cc),
+              (
+                other _ StepError.SameRank (λ e. cc),
+                (
+                  other _ StepError.NoDir (λ e. cc),
+                  (
+                    passed (is_connected w dirs) connected,
+                    (
+                      least_other NotConnected (λ e. cc) (λ x e. cc) (λ r e. cc) w from dirs (length w.parents),
+                      (other _ StepError.ExportsFull (λ e. cc), tt),
+                    ),
+                  ),
+                ),
+              ),
+            ),
+          ),
+        ),
+      )
     where
       other : (b : Bool) (r : StepError) → r ≢ NotConnected → IsOther NotConnected (when b r)
       other = when_other NotConnected

@@ -1,5 +1,6 @@
 -- Which directories are there is in the journals, and what a stopped rank knows.
-use Rattle.std.proofs.Common.{◌≡◌, ◌≢◌, ℕ, zero, suc, ◌+◌, ◌<◌, ◌≤◌, Bool, true, false, ◌&&◌, ◌||◌, eqb, cond, List, [], ◌∷◌, ◌++◌, length, get_or, set, replicate, Option, Some, None, refl, sym, ap, ◌∙◌, subst, inl, inr, arith}
+use Rattle.std.proofs.Common.{◌≡◌, ◌≢◌, ℕ, zero, suc, ◌+◌, ◌<◌, ◌≤◌, Bool, true, false, ◌&&◌, ◌||◌, eqb, cond, List, []}
+use Rattle.std.proofs.Common.{◌∷◌, ◌++◌, length, get_or, set, replicate, Option, Some, None, refl, sym, ap, ◌∙◌, subst, inl, inr, arith}
 use Rattle.std.specs.Option.{is_some}
 use Rattle.std.specs.List.{slice_get}
 use Rattle.std.proofs.lemmas.Bool.{cases_Bool, cases_eq, cases_lt, or_cases, or_left, or_right, and_parts, eqb-true}
@@ -10,7 +11,8 @@ use Rattle.export_protocol.specs.declared.message.Message.{Message}
 use Rattle.export_protocol.specs.declared.step_error.StepError.{StepError}
 use Rattle.export_protocol.specs.Cluster.{World}
 use Rattle.mds_types.specs.declared.order.Order.{Order}
-use Rattle.export_protocol.specs.Authority.{is_among, order_in, no_order, from_of, exporter_of, importer_of, journal_of, is_present, has, has_entry, is_same, authority, any_below, is_stopped}
+use Rattle.export_protocol.specs.Authority.{is_among, order_in, no_order, from_of, exporter_of, importer_of, journal_of}
+use Rattle.export_protocol.specs.Authority.{is_present, has, has_entry, is_same, authority, any_below, is_stopped}
 use Rattle.export_protocol.specs.Step.{step, answered, refusal, happens, counted, receiver, run, start, journaled_by, changed, ignored, restarts, about}
 use Rattle.export_protocol.specs.declared.event.Event.{Event}
 use Rattle.export_protocol.specs.declared.event.Event.TheVariants.{Begin, End, Start, Deliver, Froze, Notify, Abort, Stop, Restart, Ask}
@@ -119,10 +121,13 @@ module _ (w v : World) (noted : Noted w) (a p : ℕ) (grown : (r : ℕ) → jour
 
   made_noted : AreMade v → Noted v
   made_noted i = record {
-    made = λ r d h. elim (or_cases (has w r (JournalEntry.Made d)) (eqb a r && eqb (length w.parents) d) (sym (has_more w v noted (made_entry a (length w.parents)) grown r (JournalEntry.Made d)) ∙ h)) [
-      | inl old ↦ (let l : d < length w.parents = noted.made r d old in omega (arith, longer))
-      | inr new ↦ (let e : length w.parents ≡ d = eqb-true (length w.parents) d (and_parts (eqb a r) (eqb (length w.parents) d) new).1 in omega (arith, longer))
-    ];
+    made = λ r d h. elim (or_cases (has w r (JournalEntry.Made d)) (eqb a r && eqb (length w.parents) d)
+        (sym (has_more w v noted (made_entry a (length w.parents)) grown r (JournalEntry.Made d)) ∙ h)) [
+          | inl old ↦ (let l : d < length w.parents = noted.made r d old in omega (arith, longer))
+          | inr new ↦
+              (let e : length w.parents ≡ d = eqb-true (length w.parents) d (and_parts (eqb a r) (eqb (length w.parents) d) new).1 in
+              omega (arith, longer))
+        ];
     maker = λ d l. elim (cases_lt d (length w.parents)) [
       | inl m ↦ (let k = noted.maker d m in (k.0, keeps w v noted (made_entry a (length w.parents)) grown k.0 (JournalEntry.Made d) k.1))
       | inr m ↦ (let e : d ≡ length w.parents = omega (arith, longer) in (
@@ -136,13 +141,15 @@ module _ (w v : World) (noted : Noted w) (a p : ℕ) (grown : (r : ℕ) → jour
         (omega (arith, longer), others d (λ e. absurd (omega arith)) ∙ k.1));
     remover = λ d l n. elim (cases_eq d (length w.parents)) [
       | inl e ↦ absurd (cc (rw e at n, here))
-      | inr m ↦ (let k = noted.remover d (omega (arith, longer)) (sym (others d m) ∙ n) in (k.0, keeps w v noted (made_entry a (length w.parents)) grown k.0 (JournalEntry.Gone d) k.1))
+      | inr m ↦ (let k = noted.remover d (omega (arith, longer)) (sym (others d m) ∙ n) in
+          (k.0, keeps w v noted (made_entry a (length w.parents)) grown k.0 (JournalEntry.Gone d) k.1))
     ];
     inside = i;
   }
 
 -- a directory was removed
-module _ (w v : World) (noted : Noted w) (a c : ℕ) (there : c < length w.parents) (grown : (r : ℕ) → journal_of v r ≡ entered r (gone_entry a c) (journal_of w r))
+module _ (w v : World) (noted : Noted w) (a c : ℕ) (there : c < length w.parents)
+    (grown : (r : ℕ) → journal_of v r ≡ entered r (gone_entry a c) (journal_of w r))
     (parents : v.parents ≡ set w.parents c None) where
   as_long : length v.parents ≡ length w.parents
   as_long = ap length parents ∙ length-set w.parents c None
@@ -155,18 +162,25 @@ module _ (w v : World) (noted : Noted w) (a c : ℕ) (there : c < length w.paren
 
   gone_noted : AreMade v → Noted v
   gone_noted i = record {
-    made = λ r d h. (let l : d < length w.parents = noted.made r d (had w v noted (gone_entry a c) grown r (JournalEntry.Made d) (and_none (eqb a r)) h) in omega (arith, as_long));
+    made = λ r d h. (let l : d < length w.parents = noted.made r d
+        (had w v noted (gone_entry a c) grown r (JournalEntry.Made d) (and_none (eqb a r)) h) in omega (arith, as_long));
     maker = λ d l. (let k = noted.maker d (omega (arith, as_long)) in (k.0, keeps w v noted (gone_entry a c) grown k.0 (JournalEntry.Made d) k.1));
     gone = λ r d h. elim (cases_eq d c) [
       | inl e ↦ rw (e, as_long) (there, away)
-      | inr n ↦ elim (or_cases (has w r (JournalEntry.Gone d)) (eqb a r && eqb c d) (sym (has_more w v noted (gone_entry a c) grown r (JournalEntry.Gone d)) ∙ h)) [
-        | inl old ↦ (let k = noted.gone r d old in (rw as_long k.0, rest d n ∙ k.1))
-        | inr new ↦ absurd (n (sym (eqb-true c d (and_parts (eqb a r) (eqb c d) new).1)))
-      ]
+      | inr n ↦ elim (or_cases (has w r (JournalEntry.Gone d)) (eqb a r && eqb c d)
+          (sym (has_more w v noted (gone_entry a c) grown r (JournalEntry.Gone d)) ∙ h)) [
+            | inl old ↦ (let k = noted.gone r d old in (rw as_long k.0, rest d n ∙ k.1))
+            | inr new ↦ absurd (n (sym (eqb-true c d (and_parts (eqb a r) (eqb c d) new).1)))
+          ]
     ];
     remover = λ d l n. elim (cases_eq d c) [
-      | inl e ↦ (a, has_more w v noted (gone_entry a c) grown a (JournalEntry.Gone d) ∙ or_right (has w a (JournalEntry.Gone d)) (eqb a a && eqb c d) (rw (e, itself a, itself c) refl))
-      | inr m ↦ (let k = noted.remover d (omega (arith, as_long)) (sym (rest d m) ∙ n) in (k.0, keeps w v noted (gone_entry a c) grown k.0 (JournalEntry.Gone d) k.1))
+      | inl e ↦ (
+        a,
+        has_more w v noted (gone_entry a c) grown a (JournalEntry.Gone d)
+            ∙ or_right (has w a (JournalEntry.Gone d)) (eqb a a && eqb c d) (rw (e, itself a, itself c) refl),
+      )
+      | inr m ↦ (let k = noted.remover d (omega (arith, as_long)) (sym (rest d m) ∙ n) in
+          (k.0, keeps w v noted (gone_entry a c) grown k.0 (JournalEntry.Gone d) k.1))
     ];
     inside = i;
   }
@@ -176,11 +190,13 @@ module _ (w v : World) (noted : Noted w) (a c : ℕ) (there : c < length w.paren
 same_inside : (w v : World) → AreMade w → v.orders ≡ w.orders → length w.parents ≤ length v.parents → AreMade v
 same_inside w v m o l x d i = (let k : d < length w.parents = m x d (ap (λ (os : List Order). is_among (order_in os x).dirs d) (sym o) ∙ i) in omega arith)
 
-start_inside : (w v : World) (from to : ℕ) (dirs : List ℕ) → AreMade w → v.orders ≡ w.orders ++ record { from = from; to = to; dirs = dirs } ∷ [] → v.parents ≡ w.parents →
+start_inside : (w v : World) (from to : ℕ) (dirs : List ℕ) → AreMade w
+    → v.orders ≡ w.orders ++ record { from = from; to = to; dirs = dirs } ∷ [] → v.parents ≡ w.parents →
     ((d : ℕ) → is_among dirs d ≡ true → d < length w.parents) → AreMade v
 start_inside w v from to dirs m o p near x d i = elim (cases_eq x (length w.orders)) [
   | inl e ↦ rw p (near d (there (order_in v.orders x) (among x e) i))
-  | inr n ↦ rw p (m x d (there (order_in v.orders x) (ap (λ (os : List Order). order_in os x) o ∙ push_other w.orders (record { from = from; to = to; dirs = dirs }) no_order x n) i))
+  | inr n ↦ rw p (m x d (there (order_in v.orders x)
+      (ap (λ (os : List Order). order_in os x) o ∙ push_other w.orders (record { from = from; to = to; dirs = dirs }) no_order x n) i))
 ]
   where
     among : (y : ℕ) → y ≡ length w.orders → order_in v.orders y ≡ record { from = from; to = to; dirs = dirs }
@@ -218,7 +234,10 @@ module _ (w : World) (reached : IsReached w) (noted : Noted w) where
     orders_are : (step w e).1.orders ≡ (happens w e).world.orders
     orders_are = ap (λ (u : World). u.orders) world_is
 
-  quiet : (e : Event) → refusal w e ≡ None → ((r d : ℕ) → (adds r (accepted_entry w e) (JournalEntry.Made d) ≡ false) × (adds r (accepted_entry w e) (JournalEntry.Gone d) ≡ false)) → parents_after w e ≡ w.parents → (happens w e).world.orders ≡ w.orders → Noted (step w e).1
+  quiet : (e : Event) → refusal w e ≡ None
+      → ((r d : ℕ) → (adds r (accepted_entry w e) (JournalEntry.Made d) ≡ false)
+      × (adds r (accepted_entry w e) (JournalEntry.Gone d) ≡ false)) → parents_after w e ≡ w.parents → (happens w e).world.orders ≡ w.orders
+      → Noted (step w e).1
   quiet e h q p o = quiet_noted w (step w e).1 noted (accepted_entry w e) (grows e h) q (treed e h ∙ p)
       (same_inside w (step w e).1 noted.inside (orders_are e h ∙ o) (rw (treed e h, p) (omega arith)))
 
@@ -231,13 +250,16 @@ module _ (w : World) (reached : IsReached w) (noted : Noted w) where
       (rw (treed (Event.Made p) h, length_push w.parents (Some p)) (omega arith)))
   accepted_noted (Event.Gone d) h =
       let a = gone_has w d h in
-      gone_noted w (step w (Event.Gone d)).1 noted a.0 d (there_near w d (gone_there w d h)) (λ r. grows (Event.Gone d) h r ∙ rw a.1 refl) (treed (Event.Gone d) h)
+      gone_noted w (step w (Event.Gone d)).1 noted a.0 d (there_near w d (gone_there w d h)) (λ r. grows (Event.Gone d) h r ∙ rw a.1 refl)
+      (treed (Event.Gone d) h)
       (same_inside w (step w (Event.Gone d)).1 noted.inside (orders_are (Event.Gone d) h ∙ by_orders w (authority w d) (JournalEntry.Gone d))
       (rw (treed (Event.Gone d) h, length-set w.parents d None) (omega arith)))
   accepted_noted (Start f t ds) h =
       quiet_noted w (step w (Start f t ds)).1 noted None (grows (Start f t ds) h) (λ k d. (refl, refl)) (treed (Start f t ds) h)
       (start_inside w (step w (Start f t ds)).1 f t ds noted.inside (orders_are (Start f t ds) h) (treed (Start f t ds) h) (start_there w f t ds h))
-  accepted_noted (Deliver k) h = quiet (Deliver k) h (quiet_adds (delivered_entry w (slice_get w.sent k)) (quiet_delivered w (slice_get w.sent k))) refl (delivered_frame w (slice_get w.sent k)).orders
+  accepted_noted (Deliver k) h = quiet (Deliver k) h
+      (quiet_adds (delivered_entry w (slice_get w.sent k)) (quiet_delivered w (slice_get w.sent k))) refl
+      (delivered_frame w (slice_get w.sent k)).orders
   accepted_noted (Restart r) h = quiet (Restart r) h (λ k d. (refl, refl)) refl (restart_orders w r (is_stopped w r))
   accepted_noted (Begin r d) h = quiet (Begin r d) h (λ k d. (refl, refl)) refl refl
   accepted_noted (End t) h = quiet (End t) h (λ k d. (refl, refl)) refl refl
@@ -281,7 +303,8 @@ start_noted limit ranks some = record {
     root : get_or (set (replicate ranks []) 0 (JournalEntry.Made 0 ∷ [])) 0 [] ≡ JournalEntry.Made 0 ∷ []
     root = get_or-set_same (replicate ranks []) 0 (JournalEntry.Made 0 ∷ []) [] (rw (replicate_length ranks) some)
 
-    first : (r : ℕ) (f : JournalEntry) → has_entry (get_or (set (replicate ranks []) 0 (JournalEntry.Made 0 ∷ [])) r []) f ≡ true → (r ≡ 0) × (has_entry (JournalEntry.Made 0 ∷ []) f ≡ true)
+    first : (r : ℕ) (f : JournalEntry) → has_entry (get_or (set (replicate ranks []) 0 (JournalEntry.Made 0 ∷ [])) r []) f ≡ true
+        → (r ≡ 0) × (has_entry (JournalEntry.Made 0 ∷ []) f ≡ true)
     first r f h = elim (cases_eq r 0) [
       | inl e ↦ (e, sym (ap (λ j. has_entry j f) (ap (λ k. get_or (set (replicate ranks []) 0 (JournalEntry.Made 0 ∷ [])) k []) e ∙ root)) ∙ h)
       | inr n ↦ absurd (cc (ap (λ j. has_entry j f) (get_or-set_other (replicate ranks []) 0 r (JournalEntry.Made 0 ∷ []) [] n ∙ replicate_get ranks [] r), h))
@@ -300,7 +323,8 @@ module _ (w : World) (h : IsReached w) where
   ]
 
   pub are_made : AreMade w
-  are_made x d i = elim (cases_lt d (length w.parents)) [ inl l ↦ l | inr l ↦ absurd (by_noted w h (λ noted. (let k : d < length w.parents = noted.inside x d i in absurd (omega arith)))) ]
+  are_made x d i = elim (cases_lt d (length w.parents))
+      [ inl l ↦ l | inr l ↦ absurd (by_noted w h (λ noted. (let k : d < length w.parents = noted.inside x d i in absurd (omega arith)))) ]
 
   none_gone : (d : ℕ) → is_present w d ≡ true → (r : ℕ) → has w r (JournalEntry.Gone d) ≡ false
   none_gone d p r = elim (cases_Bool (has w r (JournalEntry.Gone d))) [ inl t ↦ absurd (by_noted w h (λ noted. cc ((noted.gone r d t).1, p))) | inr f ↦ f ]
@@ -309,7 +333,8 @@ module _ (w : World) (h : IsReached w) where
   some_made d p = elim (cases_Bool (any_below (length w.journals) (λ r. has w r (JournalEntry.Made d)))) [
     | inl t ↦ (let s = any_some (length w.journals) (λ r. has w r (JournalEntry.Made d)) t in (s.0, s.2))
     | inr f ↦ absurd (by_noted w h (λ noted.
-        (let m = noted.maker d (there_near w d p) in cc (any_none (length w.journals) (λ r. has w r (JournalEntry.Made d)) f m.0 (has_near m.0 (JournalEntry.Made d) m.1), m.1))))
+        (let m = noted.maker d (there_near w d p) in
+        cc (any_none (length w.journals) (λ r. has w r (JournalEntry.Made d)) f m.0 (has_near m.0 (JournalEntry.Made d) m.1), m.1))))
   ]
 
   back : (d : ℕ) → IsThere w d → is_present w d ≡ true

@@ -77,7 +77,8 @@ module _ (inside : ℕ → ℕ → Bool) (from to : ℕ → ℕ) (phase phase' :
     one_export = λ y z d h k l m. grind (arith, old.one_export);
   }
 
-  pub held_running : phase x ≡ Early → phase' x ≡ Held → ((t : ℕ) (q : Request) → request t ≡ Some q → inside x q.dir ≡ false) → Running inside phase' owns request
+  pub held_running : phase x ≡ Early → phase' x ≡ Held → ((t : ℕ) (q : Request) → request t ≡ Some q → inside x q.dir ≡ false)
+      → Running inside phase' owns request
   held_running was is ended = record {
     stands = ran.stands;
     early = λ t q y h k l. grind (arith, ran.early, ended);
@@ -245,7 +246,8 @@ module _ (inside : ℕ → ℕ → Bool) (from to : ℕ → ℕ) (phase phase' :
   pub halted_owning : Owning inside from to phase' owns named
   halted_owning = record {
     owner_named = old.owner_named;
-    named_owns = λ r d h k. (let m : (x : ℕ) × (inside x d ≡ true) × (is_moving (phase x) ≡ true) = old.named_owns r d h k in (m.0, m.1, grind (arith, phases m.0, m.2)));
+    named_owns = λ r d h k. (let m : (x : ℕ) × (inside x d ≡ true) × (is_moving (phase x) ≡ true) = old.named_owns r d h k in
+        (m.0, m.1, grind (arith, phases m.0, m.2)));
     moving = λ y r d h k. grind (arith, old.moving, phases y);
     placed = λ y d h k. grind (arith, old.placed, phases y);
     one_export = λ y z d h k l m. grind (arith, old.one_export, phases y, phases z);

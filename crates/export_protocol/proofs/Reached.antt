@@ -1,5 +1,6 @@
 -- What holds of a world that some list of events leads to.
-use Rattle.std.proofs.Common.{◌≡◌, ◌≢◌, ℕ, Bool, true, false, ◌&&◌, not, eqb, List, [], length, None, refl, sym, ap, ◌∙◌, subst, inl, inr, ◌⊎◌, ◌≤◌, ◌∷◌, ◌++◌, Some}
+use Rattle.std.proofs.Common.{◌≡◌, ◌≢◌, ℕ, Bool, true, false, ◌&&◌, not, eqb, List, [], length, None}
+use Rattle.std.proofs.Common.{refl, sym, ap, ◌∙◌, subst, inl, inr, ◌⊎◌, ◌≤◌, ◌∷◌, ◌++◌, Some}
 use Rattle.std.proofs.lemmas.Bool.{and_parts, cases_Bool, eqb-true, cases_eq, not-true}
 use Rattle.export_protocol.specs.declared.exporter.ExporterState.{ExporterState}
 use Rattle.export_protocol.specs.declared.importer.ImporterState.{ImporterState}
@@ -7,7 +8,8 @@ use Rattle.export_protocol.specs.declared.journal.JournalEntry.{JournalEntry}
 use Rattle.export_protocol.specs.declared.exporter.ExporterState.TheVariants.{Discovering, Freezing, Preparing, Exporting, Logged, Done, Aborted}
 use Rattle.export_protocol.specs.declared.importer.ImporterState.TheVariants.{Unknown, Discovered, Prepared, Started, Imported, Dropped}
 use Rattle.export_protocol.specs.Cluster.{World}
-use Rattle.export_protocol.specs.Authority.{from_of, has, authority, is_inside, named_of, owns, IsAuthority, is_authority, serves, any_below, first_below, is_held_in}
+use Rattle.export_protocol.specs.Authority.{from_of, has, authority, is_inside, named_of, owns}
+use Rattle.export_protocol.specs.Authority.{IsAuthority, is_authority, serves, any_below, first_below, is_held_in}
 use Rattle.export_protocol.specs.View.{IsReached}
 use Rattle.export_protocol.proofs.Safe.{Safe}
 use Rattle.std.proofs.Math.Logic.{∥∥₁_elim, ∥∥₁_map}

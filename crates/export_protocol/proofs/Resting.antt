@@ -1,5 +1,6 @@
 -- Between a stop and a restart nothing changes what a rank knows.
-use Rattle.std.proofs.Common.{◌≡◌, ◌≢◌, ℕ, Bool, true, false, ◌||◌, eqb, cond, List, [], ◌∷◌, ◌++◌, length, get_or, set, Option, Some, None, refl, sym, ap, ◌∙◌, subst, inl, inr, arith}
+use Rattle.std.proofs.Common.{◌≡◌, ◌≢◌, ℕ, Bool, true, false, ◌||◌, eqb, cond, List, [], ◌∷◌, ◌++◌, length}
+use Rattle.std.proofs.Common.{get_or, set, Option, Some, None, refl, sym, ap, ◌∙◌, subst, inl, inr, arith}
 use Rattle.std.specs.List.{slice_get}
 use Rattle.std.proofs.lemmas.Bool.{cases_eq, cases_lt, eqb-true}
 use Rattle.std.proofs.lemmas.List.{get_or-set_other}
@@ -16,7 +17,9 @@ use Rattle.export_protocol.specs.Cluster.{World}
 use Rattle.mds_types.specs.declared.order.Order.{Order}
 use Rattle.export_protocol.specs.Authority.{order_in, no_order, from_of, to_of, exporter_of, importer_of, journal_of, has, has_entry, authority, is_stopped}
 use Rattle.export_protocol.specs.declared.moves.Transition.{Transition}
-use Rattle.export_protocol.specs.Step.{step, answered, refusal, causes, happens, counted, receiver, run, start, journaled_by, changed, ignored, stops, restarts, comes, delivered, exporter_by_journal, importer_by_journal, authority_stopped, move, acts, about}
+use Rattle.export_protocol.specs.Step.{step, answered, refusal, causes, happens, counted, receiver, run}
+use Rattle.export_protocol.specs.Step.{start, journaled_by, changed, ignored, stops, restarts, comes, delivered}
+use Rattle.export_protocol.specs.Step.{exporter_by_journal, importer_by_journal, authority_stopped, move, acts, about}
 use Rattle.export_protocol.specs.declared.event.Event.{Event}
 use Rattle.export_protocol.specs.Entries.{exporter_at_stop, importer_at_stop}
 use Rattle.export_protocol.specs.declared.event.Event.TheVariants.{Begin, End, Start, Deliver, Froze, Notify, Abort, Stop, Restart, Ask}
@@ -43,7 +46,8 @@ pub record Rested (w : World) : Type 0 where
 told_exporter : (n e : Bool) → exporter_at_stop (cond n Done (cond e Logged Aborted)) ≡ cond n Done (cond e Logged Aborted)
 told_exporter n e = grind arith
 
-told_importer : (m d s : Bool) → importer_at_stop d (cond m Imported (cond d Dropped (cond s Started Unknown))) ≡ cond m Imported (cond d Dropped (cond s Started Unknown))
+told_importer : (m d s : Bool) → importer_at_stop d (cond m Imported (cond d Dropped (cond s Started Unknown)))
+    ≡ cond m Imported (cond d Dropped (cond s Started Unknown))
 told_importer m d s = grind arith
 
 unknown_rests : (b : Bool) → importer_at_stop b Unknown ≡ Unknown
@@ -60,7 +64,8 @@ pub record Rests (w v : World) : Type 0 where
   pub exporter : (x : ℕ) → is_stopped w (from_of w x) ≡ true → exporter_of v x ≡ exporter_of w x
   pub importer : (x : ℕ) → is_stopped w (to_of w x) ≡ true → importer_of v x ≡ importer_of w x
 
-module _ (w v : World) (rested : Rested w) (rests : Rests w v) (quiet : (r x : ℕ) → is_stopped w r ≡ true → has v r (JournalEntry.Dropped x) ≡ has w r (JournalEntry.Dropped x)) where
+module _ (w v : World) (rested : Rested w) (rests : Rests w v)
+    (quiet : (r x : ℕ) → is_stopped w r ≡ true → has v r (JournalEntry.Dropped x) ≡ has w r (JournalEntry.Dropped x)) where
   froms : (x : ℕ) → from_of v x ≡ from_of w x
   froms x = ap (λ (os : List Order). (order_in os x).from) rests.orders
 
@@ -72,7 +77,8 @@ module _ (w v : World) (rested : Rested w) (rests : Rests w v) (quiet : (r x : �
 
   rests_rested : Rested v
   rests_rested = record {
-    exports = λ x h. (let k : is_stopped w (from_of w x) ≡ true = sym (halts (from_of v x) ∙ ap (is_stopped w) (froms x)) ∙ h in rw (rests.exporter x k) (rested.exports x k));
+    exports = λ x h. (let k : is_stopped w (from_of w x) ≡ true = sym (halts (from_of v x) ∙ ap (is_stopped w) (froms x)) ∙ h in
+        rw (rests.exporter x k) (rested.exports x k));
     imports = λ x h. (let k : is_stopped w (to_of w x) ≡ true = sym (halts (to_of v x) ∙ ap (is_stopped w) (tos x)) ∙ h in
         rw (rests.importer x k, tos x, quiet (to_of w x) x k) (rested.imports x k));
   }
@@ -83,22 +89,26 @@ module _ (w : World) where
 
   -- one state at a rank that runs changes
 
-  export_changes : (v : World) (x : ℕ) (s : ExporterState) → is_stopped w (from_of w x) ≡ false → v.orders ≡ w.orders → v.stopped ≡ w.stopped → v.importers ≡ w.importers →
+  export_changes : (v : World) (x : ℕ) (s : ExporterState) → is_stopped w (from_of w x) ≡ false → v.orders ≡ w.orders
+      → v.stopped ≡ w.stopped → v.importers ≡ w.importers →
       v.exporters ≡ set w.exporters x s → Rests w v
   export_changes v x s up o b i e = record {
     orders = o;
     stopped = b;
-    exporter = λ y h. ap (λ (es : List ExporterState). get_or es y Aborted) e ∙ get_or-set_other w.exporters x y s Aborted (λ k. differs w (from_of w x) (from_of w y) up h (ap (from_of w) (sym k)));
+    exporter = λ y h. ap (λ (es : List ExporterState). get_or es y Aborted) e
+        ∙ get_or-set_other w.exporters x y s Aborted (λ k. differs w (from_of w x) (from_of w y) up h (ap (from_of w) (sym k)));
     importer = λ y h. ap (λ (is : List ImporterState). get_or is y Unknown) i;
   }
 
-  import_changes : (v : World) (x : ℕ) (s : ImporterState) → is_stopped w (to_of w x) ≡ false → v.orders ≡ w.orders → v.stopped ≡ w.stopped → v.exporters ≡ w.exporters →
+  import_changes : (v : World) (x : ℕ) (s : ImporterState) → is_stopped w (to_of w x) ≡ false → v.orders ≡ w.orders → v.stopped ≡ w.stopped
+      → v.exporters ≡ w.exporters →
       v.importers ≡ set w.importers x s → Rests w v
   import_changes v x s up o b e i = record {
     orders = o;
     stopped = b;
     exporter = λ y h. ap (λ (es : List ExporterState). get_or es y Aborted) e;
-    importer = λ y h. ap (λ (is : List ImporterState). get_or is y Unknown) i ∙ get_or-set_other w.importers x y s Unknown (λ k. differs w (to_of w x) (to_of w y) up h (ap (to_of w) (sym k)));
+    importer = λ y h. ap (λ (is : List ImporterState). get_or is y Unknown) i
+        ∙ get_or-set_other w.importers x y s Unknown (λ k. differs w (to_of w x) (to_of w y) up h (ap (to_of w) (sym k)));
   }
 
   -- a message changes a state only at its receiver
@@ -174,22 +184,27 @@ module _ (w : World) where
 
   -- an export starts
 
-  start_rested : Rested w → (from to : ℕ) (dirs : List ℕ) → is_stopped w from ≡ false → length w.exporters ≡ length w.orders → length w.importers ≡ length w.orders →
+  start_rested : Rested w → (from to : ℕ) (dirs : List ℕ) → is_stopped w from ≡ false → length w.exporters ≡ length w.orders
+      → length w.importers ≡ length w.orders →
       Rested (happens w (Start from to dirs)).world
   unfolding happens
   start_rested rested from to dirs up el il = record {
     exports = λ x h. elim (cases_eq x (length w.orders)) [
       | inl e ↦ absurd (cc (sym (ap (λ (o : Order). is_stopped w o.from) (ordered x e)) ∙ h, up))
-      | inr n ↦ rw (push_other w.exporters Discovering Aborted x (λ k. n (k ∙ el))) (rested.exports x (sym (ap (λ (o : Order). is_stopped w o.from) (others x n)) ∙ h))
+      | inr n ↦ rw (push_other w.exporters Discovering Aborted x (λ k. n (k ∙ el)))
+          (rested.exports x (sym (ap (λ (o : Order). is_stopped w o.from) (others x n)) ∙ h))
     ];
     imports = λ x h. elim (cases_eq x (length w.orders)) [
-      | inl e ↦ rw (ap (λ k. get_or (w.importers ++ Unknown ∷ []) k Unknown) (e ∙ sym il) ∙ push_same w.importers Unknown Unknown) (unknown_rests (has w (order_in (w.orders ++ record { from = from; to = to; dirs = dirs } ∷ []) x).to (JournalEntry.Dropped x)))
+      | inl e ↦ rw (ap (λ k. get_or (w.importers ++ Unknown ∷ []) k Unknown) (e ∙ sym il) ∙ push_same w.importers Unknown Unknown)
+          (unknown_rests (has w (order_in (w.orders ++ record { from = from; to = to; dirs = dirs } ∷ []) x).to (JournalEntry.Dropped x)))
       | inr n ↦ rw (push_other w.importers Unknown Unknown x (λ k. n (k ∙ il)))
-          (subst (λ (o : Order). importer_at_stop (has w o.to (JournalEntry.Dropped x)) (importer_of w x) ≡ importer_of w x) (sym (others x n)) (rested.imports x (sym (ap (λ (o : Order). is_stopped w o.to) (others x n)) ∙ h)))
+          (subst (λ (o : Order). importer_at_stop (has w o.to (JournalEntry.Dropped x)) (importer_of w x) ≡ importer_of w x)
+          (sym (others x n)) (rested.imports x (sym (ap (λ (o : Order). is_stopped w o.to) (others x n)) ∙ h)))
     ];
   }
     where
-      ordered : (x : ℕ) → x ≡ length w.orders → order_in (w.orders ++ record { from = from; to = to; dirs = dirs } ∷ []) x ≡ record { from = from; to = to; dirs = dirs }
+      ordered : (x : ℕ) → x ≡ length w.orders → order_in (w.orders ++ record { from = from; to = to; dirs = dirs } ∷ []) x
+          ≡ record { from = from; to = to; dirs = dirs }
       ordered x e = rw e (push_same w.orders (record { from = from; to = to; dirs = dirs }) no_order)
 
       others : (x : ℕ) → x ≢ length w.orders → order_in (w.orders ++ record { from = from; to = to; dirs = dirs } ∷ []) x ≡ order_in w.orders x
@@ -200,12 +215,15 @@ module _ (w : World) where
   stop_rested : Rested w → (r : ℕ) → Rested (stops w r)
   stop_rested rested r = record {
     exports = λ x h. elim (cases_lt x (length w.exporters)) [
-      | inl near ↦ rw (map_at_get (λ y state. cond (eqb (from_of w y) r) (exporter_by_journal w r y) state) w.exporters x Aborted Aborted near) (exporter x h (eqb (from_of w x) r) refl)
+      | inl near ↦ rw (map_at_get (λ y state. cond (eqb (from_of w y) r) (exporter_by_journal w r y) state) w.exporters x Aborted Aborted
+          near) (exporter x h (eqb (from_of w x) r) refl)
       | inr far ↦ rw (map_at_past (λ y state. cond (eqb (from_of w y) r) (exporter_by_journal w r y) state) w.exporters x Aborted far) refl
     ];
     imports = λ x h. elim (cases_lt x (length w.importers)) [
-      | inl near ↦ rw (map_at_get (λ y state. cond (eqb (to_of w y) r) (importer_by_journal w r y) state) w.importers x Unknown Unknown near) (importer x h (eqb (to_of w x) r) refl)
-      | inr far ↦ rw (map_at_past (λ y state. cond (eqb (to_of w y) r) (importer_by_journal w r y) state) w.importers x Unknown far) (unknown_rests (has w (to_of w x) (JournalEntry.Dropped x)))
+      | inl near ↦ rw (map_at_get (λ y state. cond (eqb (to_of w y) r) (importer_by_journal w r y) state) w.importers x Unknown Unknown
+          near) (importer x h (eqb (to_of w x) r) refl)
+      | inr far ↦ rw (map_at_past (λ y state. cond (eqb (to_of w y) r) (importer_by_journal w r y) state) w.importers x Unknown far)
+          (unknown_rests (has w (to_of w x) (JournalEntry.Dropped x)))
     ];
   }
     where
@@ -221,8 +239,10 @@ module _ (w : World) where
       exporter x h false e = rested.exports x (before (from_of w x) e h)
 
       importer : (x : ℕ) → get_or (set w.stopped r true) (to_of w x) false ≡ true → (b : Bool) → eqb (to_of w x) r ≡ b →
-          importer_at_stop (has w (to_of w x) (JournalEntry.Dropped x)) (cond b (importer_by_journal w r x) (importer_of w x)) ≡ cond b (importer_by_journal w r x) (importer_of w x)
-      importer x h true e = rw (eqb-true (to_of w x) r e) (told_importer (has w r (JournalEntry.Imported x)) (has w r (JournalEntry.Dropped x)) (has w r (JournalEntry.Started x)))
+          importer_at_stop (has w (to_of w x) (JournalEntry.Dropped x)) (cond b (importer_by_journal w r x) (importer_of w x))
+          ≡ cond b (importer_by_journal w r x) (importer_of w x)
+      importer x h true e = rw (eqb-true (to_of w x) r e)
+          (told_importer (has w r (JournalEntry.Imported x)) (has w r (JournalEntry.Dropped x)) (has w r (JournalEntry.Started x)))
       importer x h false e = rested.imports x (before (to_of w x) e h)
 
   -- a rank runs again
@@ -231,12 +251,15 @@ module _ (w : World) where
   restart_rested rested r false = rested
   restart_rested rested r true = record {
     exports = λ x h. elim (cases_lt x (length w.exporters)) [
-      | inl near ↦ rw (map_at_get (λ y state. cond (eqb (from_of w y) r) (exporter_by_journal w r y) state) w.exporters x Aborted Aborted near) (exporter x h (eqb (from_of w x) r) refl)
+      | inl near ↦ rw (map_at_get (λ y state. cond (eqb (from_of w y) r) (exporter_by_journal w r y) state) w.exporters x Aborted Aborted
+          near) (exporter x h (eqb (from_of w x) r) refl)
       | inr far ↦ rw (map_at_past (λ y state. cond (eqb (from_of w y) r) (exporter_by_journal w r y) state) w.exporters x Aborted far) refl
     ];
     imports = λ x h. elim (cases_lt x (length w.importers)) [
-      | inl near ↦ rw (map_at_get (λ y state. cond (eqb (to_of w y) r) (importer_by_journal w r y) state) w.importers x Unknown Unknown near) (importer x h (eqb (to_of w x) r) refl)
-      | inr far ↦ rw (map_at_past (λ y state. cond (eqb (to_of w y) r) (importer_by_journal w r y) state) w.importers x Unknown far) (unknown_rests (has w (to_of w x) (JournalEntry.Dropped x)))
+      | inl near ↦ rw (map_at_get (λ y state. cond (eqb (to_of w y) r) (importer_by_journal w r y) state) w.importers x Unknown Unknown
+          near) (importer x h (eqb (to_of w x) r) refl)
+      | inr far ↦ rw (map_at_past (λ y state. cond (eqb (to_of w y) r) (importer_by_journal w r y) state) w.importers x Unknown far)
+          (unknown_rests (has w (to_of w x) (JournalEntry.Dropped x)))
     ];
   }
     where
@@ -255,7 +278,8 @@ module _ (w : World) where
       exporter x h false e = rested.exports x (before (from_of w x) e h)
 
       importer : (x : ℕ) → get_or (set w.stopped r false) (to_of w x) false ≡ true → (b : Bool) → eqb (to_of w x) r ≡ b →
-          importer_at_stop (has w (to_of w x) (JournalEntry.Dropped x)) (cond b (importer_by_journal w r x) (importer_of w x)) ≡ cond b (importer_by_journal w r x) (importer_of w x)
+          importer_at_stop (has w (to_of w x) (JournalEntry.Dropped x)) (cond b (importer_by_journal w r x) (importer_of w x))
+          ≡ cond b (importer_by_journal w r x) (importer_of w x)
       importer x h true e = absurd (runs (to_of w x) e h)
       importer x h false e = rested.imports x (before (to_of w x) e h)
 
@@ -279,7 +303,8 @@ module _ (w : World) (reached : IsReached w) (rested : Rested w) where
   quiet : (e : Event) → refusal w e ≡ None → (r x : ℕ) → is_stopped w r ≡ true → has (step w e).1 r (JournalEntry.Dropped x) ≡ has w r (JournalEntry.Dropped x)
   quiet e h r x s =
       ap (λ j. has_entry j (JournalEntry.Dropped x)) (grew e h r) ∙ (entered_has r (accepted_entry w e) (journal_of w r) (JournalEntry.Dropped x)
-      ∙ alone (has w r (JournalEntry.Dropped x)) (adds r (accepted_entry w e) (JournalEntry.Dropped x)) (unwritten w (accepted_entry w e) (accepted_runs w e h) r (JournalEntry.Dropped x) s))
+      ∙ alone (has w r (JournalEntry.Dropped x)) (adds r (accepted_entry w e) (JournalEntry.Dropped x))
+      (unwritten w (accepted_entry w e) (accepted_runs w e h) r (JournalEntry.Dropped x) s))
     where
       alone : (a b : Bool) → b ≡ false → (a || b) ≡ a
       alone a b k = grind arith
@@ -292,16 +317,23 @@ module _ (w : World) (reached : IsReached w) (rested : Rested w) where
 
   accepted_rested : (e : Event) → refusal w e ≡ None → Rested (step w e).1
   unfolding happens causes
-  accepted_rested (Event.Made p) h = by_rule (Event.Made p) h (by_rests w (authority w p) (JournalEntry.Made (length w.parents)) (w.parents ++ Some p ∷ []) (w.named ++ authority w p ∷ []))
+  accepted_rested (Event.Made p) h = by_rule (Event.Made p) h
+      (by_rests w (authority w p) (JournalEntry.Made (length w.parents)) (w.parents ++ Some p ∷ []) (w.named ++ authority w p ∷ []))
   accepted_rested (Event.Gone d) h = by_rule (Event.Gone d) h (by_rests w (authority w d) (JournalEntry.Gone d) (set w.parents d None) (set w.named d None))
   accepted_rested (Begin r d) h = by_rule (Begin r d) h (record { orders = refl; stopped = refl; exporter = λ y k. refl; importer = λ y k. refl })
   accepted_rested (End t) h = by_rule (End t) h (record { orders = refl; stopped = refl; exporter = λ y k. refl; importer = λ y k. refl })
   accepted_rested (Start f t ds) h = by_world (Start f t ds) h (start_rested w rested f t ds (not_refused _ _ (not_refused_causes w (Start f t ds) h).1.1.0)
-      (numbers_by w reached (length w.exporters) (length w.orders) (λ safe. safe.exporting)) (numbers_by w reached (length w.importers) (length w.orders) (λ safe. safe.importing)))
+      (numbers_by w reached (length w.exporters) (length w.orders) (λ safe. safe.exporting))
+      (numbers_by w reached (length w.importers) (length w.orders) (λ safe. safe.importing)))
   accepted_rested (Deliver k) h = by_rule (Deliver k) h (delivered_rests w (slice_get w.sent k))
-  accepted_rested (Froze x) h = by_rule (Froze x) h (export_changes w (happens w (Froze x)).world x Preparing (not_refused _ _ (not_refused_causes w (Froze x) h).1.0) refl refl refl refl)
-  accepted_rested (Notify x) h = by_rule (Notify x) h (export_changes w (happens w (Notify x)).world x Done (not_refused _ _ (not_refused_causes w (Notify x) h).1.0) refl refl refl refl)
-  accepted_rested (Abort x) h = by_rule (Abort x) h (export_changes w (happens w (Abort x)).world x Aborted (not_refused _ _ (not_refused_causes w (Abort x) h).1.0) refl refl refl refl)
+  accepted_rested (Froze x) h =
+      by_rule (Froze x) h (export_changes w (happens w (Froze x)).world x Preparing (not_refused _ _ (not_refused_causes w (Froze x) h).1.0)
+      refl refl refl refl)
+  accepted_rested (Notify x) h = by_rule (Notify x) h
+      (export_changes w (happens w (Notify x)).world x Done (not_refused _ _ (not_refused_causes w (Notify x) h).1.0) refl refl refl refl)
+  accepted_rested (Abort x) h =
+      by_rule (Abort x) h (export_changes w (happens w (Abort x)).world x Aborted (not_refused _ _ (not_refused_causes w (Abort x) h).1.0)
+      refl refl refl refl)
   accepted_rested (Stop r) h = by_world (Stop r) h (stop_rested w rested r)
   accepted_rested (Restart r) h = by_world (Restart r) h (restart_rested w rested r (is_stopped w r))
   accepted_rested (Ask x) h = by_rule (Ask x) h (record { orders = refl; stopped = refl; exporter = λ y k. refl; importer = λ y k. refl })
@@ -320,7 +352,10 @@ run_rested (e ∷ es) w r rested = run_rested es (step w e).1 (reached_step w r 
 
 start_rests : (limit ranks : ℕ) → Rested (start limit ranks)
 unfolding start
-start_rests limit ranks = record { exports = λ x h. refl; imports = λ x h. unknown_rests (has (start limit ranks) (to_of (start limit ranks) x) (JournalEntry.Dropped x)) }
+start_rests limit ranks = record {
+  exports = λ x h. refl;
+  imports = λ x h. unknown_rests (has (start limit ranks) (to_of (start limit ranks) x) (JournalEntry.Dropped x));
+}
 
 by_rested : (w : World) → IsReached w → (Rested w → ⊥) → ⊥
 by_rested w h k = ∥∥₁_elim h (λ x y. absurd x) (λ r. k (subst Rested r.4 (run_rested r.2 (start r.0 r.1) (started r.0 r.1 r.3) (start_rests r.0 r.1))))
@@ -345,14 +380,18 @@ module _ (w : World) (h : IsReached w) (r : ℕ) (stopped : is_stopped w r ≡ t
     exports = λ x e. exporters_by w h (exporter_of w x) (exporter_by_journal w r x)
         (λ safe. sym (subst (λ s. exporter_by_journal w s x ≡ exporter_at_stop (exporter_of w x)) e (exporter_journaled w safe r x) ∙ export_kept x e));
     imports = λ x e. importers_by w h (importer_of w x) (importer_by_journal w r x)
-        (λ safe. sym (subst (λ s. importer_by_journal w s x ≡ importer_at_stop (has w (to_of w x) (JournalEntry.Dropped x)) (importer_of w x)) e (importer_journaled w safe r x) ∙ import_kept x e));
+        (λ safe. sym (subst (λ s. importer_by_journal w s x
+        ≡ importer_at_stop (has w (to_of w x) (JournalEntry.Dropped x)) (importer_of w x)) e (importer_journaled w safe r x)
+        ∙ import_kept x e));
   }
 
   -- so a restart changes no state
   pub restarts_same : restarts w r ≡ record w { stopped = set w.stopped r false }
   restarts_same =
-      ap (λ es. record (restarts w r) { exporters = es }) (same_here _ (λ x s. s) w.exporters Aborted (λ x l. exporting x (eqb (from_of w x) r) refl) ∙ unchanged w.exporters)
-      ∙ ap (λ is. record w { importers = is; stopped = set w.stopped r false }) (same_here _ (λ x s. s) w.importers Unknown (λ x l. importing x (eqb (to_of w x) r) refl) ∙ unchanged w.importers)
+      ap (λ es. record (restarts w r) { exporters = es })
+      (same_here _ (λ x s. s) w.exporters Aborted (λ x l. exporting x (eqb (from_of w x) r) refl) ∙ unchanged w.exporters)
+      ∙ ap (λ is. record w { importers = is; stopped = set w.stopped r false })
+      (same_here _ (λ x s. s) w.importers Unknown (λ x l. importing x (eqb (to_of w x) r) refl) ∙ unchanged w.importers)
     where
       exporting : (x : ℕ) (b : Bool) → eqb (from_of w x) r ≡ b → cond b (exporter_by_journal w r x) (exporter_of w x) ≡ exporter_of w x
       exporting x true e = sym (is_recovered.exports x (eqb-true (from_of w x) r e))

@@ -20,7 +20,9 @@ use Rattle.export_protocol.proofs.Found.{tests_by, options_by}
 
 pub reached_kept : (w : World) → IsReached w → (e : Event) → KeepsAuthority w e
 reached_kept w h e t q k r = (
-  (λ a. holds_authority (step w e).1 r q.dir (tests_by w h (is_authority (step w e).1 r q.dir) true (λ safe. tests_authority (step w e).1 r q.dir ((safe_kept w safe e t q k r).0 a)))),
+  (λ a. holds_authority (step w e).1 r q.dir
+      (tests_by w h (is_authority (step w e).1 r q.dir) true
+      (λ safe. tests_authority (step w e).1 r q.dir ((safe_kept w safe e t q k r).0 a)))),
   (λ a. holds_authority w r q.dir (tests_by w h (is_authority w r q.dir) true (λ safe. tests_authority w r q.dir ((safe_kept w safe e t q k r).1 a)))),
 )
 
@@ -66,7 +68,8 @@ answers_next w u v (f ∷ es) [] e r a b = absurd a
 answers_next w u v (f ∷ es) (s ∷ rs) e r a b = (a.0, a.1, answers_next a.0 u v es rs e r a.2 b)
 
 -- with memory for each event the answers are the definition's
-pub answers_are : (w v : World) (es : List Event) (rs : List (Result Reply StepError)) → AreAnswers w es rs v → NoneIsMemory rs → (rs ≡ answers w es) × (v ≡ run w es)
+pub answers_are : (w v : World) (es : List Event) (rs : List (Result Reply StepError)) → AreAnswers w es rs v → NoneIsMemory rs
+    → (rs ≡ answers w es) × (v ≡ run w es)
 answers_are w v [] [] a n = (refl, a)
 answers_are w v [] (r ∷ rs) a n = absurd a
 answers_are w v (e ∷ es) [] a n = absurd a

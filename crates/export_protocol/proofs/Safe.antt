@@ -13,9 +13,13 @@ use Rattle.export_protocol.specs.declared.importer.ImporterState.TheVariants.{Un
 use Rattle.export_protocol.specs.declared.message.Message.TheVariants.{ExportAck, Finish, Cancel}
 use Rattle.export_protocol.specs.Authority.{is_inside, from_of, to_of, exporter_of, importer_of, named_of, is_present, request_of, has, owned_after, owns}
 use Rattle.export_protocol.specs.Step.{exporter_to, importer_to, journals, names_importer, is_started, is_before_log}
-use Rattle.export_protocol.proofs.Owning.{Phase, is_moving, Owning, Running, same_owning, same_running, held_owning, held_running, abort_owning, abort_running, log_owning, log_running, notify_owning, notify_running, import_owning, import_running}
+use Rattle.export_protocol.proofs.Owning.{Phase, is_moving, Owning, Running, same_owning, same_running}
+use Rattle.export_protocol.proofs.Owning.{held_owning, held_running, abort_owning, abort_running, log_owning, log_running}
+use Rattle.export_protocol.proofs.Owning.{notify_owning, notify_running, import_owning, import_running}
 use Rattle.export_protocol.proofs.Owning.Phase.{Early, Held, Moving, Told, Over}
-use Rattle.export_protocol.proofs.Tables.{Tables, is_plain, together, is_imported, sent_plain, sent_finish, sent_cancel, sent_ack, early_tables, abort_tables, log_tables, notify_tables, import_early_tables, started_tables, imported_tables, dropped_tables}
+use Rattle.export_protocol.proofs.Tables.{Tables, is_plain, together, is_imported, sent_plain, sent_finish}
+use Rattle.export_protocol.proofs.Tables.{sent_cancel, sent_ack, early_tables, abort_tables, log_tables, notify_tables}
+use Rattle.export_protocol.proofs.Tables.{import_early_tables, started_tables, imported_tables, dropped_tables}
 use Rattle.export_protocol.specs.Step.{about}
 use Rattle.export_protocol.proofs.Views.{push_get, not_past, has_adds, owns_at, owns_other, map_at_get, map_at_past, map_at_length}
 use Rattle.std.proofs.lemmas.List.{get_or-set_same, get_or-set_other, get_or_past, length-set}
@@ -69,7 +73,8 @@ abbrev pub with_message : World → Message → World
 with_message w m = record w { sent = w.sent ++ m ∷ [] }
 
 module _ (w : World) (safe : Safe w) (m : Message) where
-  pub send_safe : Tables (length w.orders) (from_of w) (to_of w) (exporter_of w) (importer_of w) (has w) (message_of (with_message w m)) → Safe (with_message w m)
+  pub send_safe : Tables (length w.orders) (from_of w) (to_of w) (exporter_of w) (importer_of w) (has w) (message_of (with_message w m))
+      → Safe (with_message w m)
   send_safe t = record {
     tables = t;
     owning = safe.owning;
@@ -236,7 +241,8 @@ module _ (w : World) (safe : Safe w) (x : ℕ) (was : exporter_of w x ≡ Logged
       let at : exporter_of (exporter_to w x Done) x ≡ Done = exporter_at w safe x Done notify_near in
       let moving : phase_of w x ≡ Moving = rw was refl in
       let tells : phase_of (exporter_to w x Done) x ≡ Told = rw at (told_started (importer_of w x) notify_started) in
-      let owning : Owning (is_inside w) (from_of w) (to_of w) (phase_of w) (owns (journals (exporter_to w x Done) (from_of w x) (JournalEntry.Notified x))) (named_of w) =
+      let owning : Owning (is_inside w) (from_of w) (to_of w) (phase_of w)
+      (owns (journals (exporter_to w x Done) (from_of w x) (JournalEntry.Notified x))) (named_of w) =
       same_owning _ _ _ _ _ _ _ _ (request_of w) safe.owning safe.running (λ y. refl) notify_owns in
       let running : Running (is_inside w) (phase_of w) (owns (journals (exporter_to w x Done) (from_of w x) (JournalEntry.Notified x))) (request_of w) =
       same_running _ _ _ _ _ _ _ _ _ safe.owning safe.running (λ y. refl) notify_owns in
@@ -244,7 +250,8 @@ module _ (w : World) (safe : Safe w) (x : ℕ) (was : exporter_of w x ≡ Logged
         tables = notify_tables _ _ _ _ _ _ _ safe.tables (exporter_of (exporter_to w x Done)) _ x (exporter_others w safe x Done notify_near)
             (has_adds (exporter_to w x Done) (from_of w x) (JournalEntry.Notified x) notify_rank) was at;
         owning = notify_owning _ _ _ _ _ _ _ _ _ x owning running moving tells (exporter_phases w safe x Done notify_near) notify_told notify_outside;
-        running = notify_running _ _ _ _ _ _ (named_of w) (named_of (names_importer w x)) _ x owning running moving tells (exporter_phases w safe x Done notify_near) notify_told notify_outside;
+        running = notify_running _ _ _ _ _ _ (named_of w) (named_of (names_importer w x)) _ x owning running moving tells
+            (exporter_phases w safe x Done notify_near) notify_told notify_outside;
         present = notify_present;
         numbered = safe.numbered ∙ sym (map_at_length (λ c rank. cond (is_inside w x c) (Some (to_of w x)) rank) w.named);
         exporting = length-set w.exporters x Done ∙ safe.exporting;
@@ -299,7 +306,8 @@ module _ (w : World) (safe : Safe w) (x : ℕ) (s : ImporterState) (e : JournalE
   ]
 
   quiet_safe : is_imported (importer_of w x) ≡ false → is_imported s ≡ false →
-      Tables (length w.orders) (from_of w) (to_of w) (exporter_of w) (importer_of (importer_to w x s)) (has (journals (importer_to w x s) (to_of w x) e)) (message_of w) →
+      Tables (length w.orders) (from_of w) (to_of w) (exporter_of w) (importer_of (importer_to w x s))
+      (has (journals (importer_to w x s) (to_of w x) e)) (message_of w) →
       Safe (journals (importer_to w x s) (to_of w x) e)
   quiet_safe imp imp' t = record {
     tables = t;

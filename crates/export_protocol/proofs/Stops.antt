@@ -1,5 +1,6 @@
 -- A stop and a restart keep the invariant.
-use Rattle.std.proofs.Common.{◌≡◌, ℕ, Bool, true, false, ◌&&◌, not, eqb, cond, List, length, get_or, Option, Some, None, refl, sym, ◌∙◌, subst, inl, inr, ◌⊎◌, arith}
+use Rattle.std.proofs.Common.{◌≡◌, ℕ, Bool, true, false, ◌&&◌, not, eqb, cond, List, length, get_or}
+use Rattle.std.proofs.Common.{Option, Some, None, refl, sym, ◌∙◌, subst, inl, inr, ◌⊎◌, arith}
 use Rattle.export_protocol.specs.declared.exporter.ExporterState.{ExporterState}
 use Rattle.export_protocol.specs.declared.importer.ImporterState.{ImporterState}
 use Rattle.export_protocol.specs.declared.journal.JournalEntry.{JournalEntry}
@@ -69,7 +70,8 @@ module _ (w : World) (safe : Safe w) (exporters : List ExporterState) (importers
 
   pub halt_safe : Safe (record w { exporters = exporters; importers = importers; tickets = tickets; stopped = stopped })
   halt_safe = record {
-    tables = halted_importers _ _ _ _ _ _ _ (halted_exporters _ _ _ _ _ _ _ safe.tables (λ x. get_or exporters x Aborted) exporting) (λ x. get_or importers x Unknown) importing;
+    tables = halted_importers _ _ _ _ _ _ _ (halted_exporters _ _ _ _ _ _ _ safe.tables (λ x. get_or exporters x Aborted) exporting)
+        (λ x. get_or importers x Unknown) importing;
     owning = halted_owning _ _ _ _ _ _ _ _ (λ t. get_or tickets t None) safe.owning safe.running halt_phases still;
     running = halted_running _ _ _ _ _ _ _ _ (λ t. get_or tickets t None) safe.owning safe.running halt_phases still;
     present = safe.present;
@@ -110,34 +112,43 @@ module _ (w : World) (safe : Safe w) (rank : ℕ) where
       (rw (safe.tables.notified (from_of w x) x, itself (from_of w x)) refl) (rw (safe.tables.exported (from_of w x) x, itself (from_of w x)) refl)
 
   pub importer_journaled : (x : ℕ) → importer_by_journal w (to_of w x) x ≡ importer_at_stop (has w (to_of w x) (JournalEntry.Dropped x)) (importer_of w x)
-  importer_journaled x = journal_importer (importer_of w x) (has w (to_of w x) (JournalEntry.Started x)) (has w (to_of w x) (JournalEntry.Imported x)) (has w (to_of w x) (JournalEntry.Dropped x))
+  importer_journaled x = journal_importer (importer_of w x) (has w (to_of w x) (JournalEntry.Started x))
+      (has w (to_of w x) (JournalEntry.Imported x)) (has w (to_of w x) (JournalEntry.Dropped x))
       (rw (safe.tables.imported (to_of w x) x, itself (to_of w x)) refl) (rw (safe.tables.importing (to_of w x) x, itself (to_of w x)) refl)
       (λ d. (safe.tables.dropped (to_of w x) x d).1)
 
   restart_exporters : (x : ℕ) → ExporterHalts (exporter_of w x) (get_or (restarts w rank).exporters x Aborted)
   restart_exporters x = elim (cases_lt x (length w.exporters)) [
-    | inl near ↦ rw (map_at_get (λ y state. cond (eqb (from_of w y) rank) (exporter_by_journal w rank y) state) w.exporters x Aborted Aborted near) (go (eqb (from_of w x) rank) refl)
-    | inr far ↦ inl (map_at_past (λ y state. cond (eqb (from_of w y) rank) (exporter_by_journal w rank y) state) w.exporters x Aborted far ∙ sym (get_or_past w.exporters x Aborted far))
+    | inl near ↦ rw (map_at_get (λ y state. cond (eqb (from_of w y) rank) (exporter_by_journal w rank y) state) w.exporters x Aborted
+        Aborted near) (go (eqb (from_of w x) rank) refl)
+    | inr far ↦ inl (map_at_past (λ y state. cond (eqb (from_of w y) rank) (exporter_by_journal w rank y) state) w.exporters x Aborted far
+        ∙ sym (get_or_past w.exporters x Aborted far))
   ]
     where
       go : (b : Bool) → eqb (from_of w x) rank ≡ b → ExporterHalts (exporter_of w x) (cond b (exporter_by_journal w rank x) (exporter_of w x))
       go true e =
-          let j : exporter_by_journal w rank x ≡ exporter_at_stop (exporter_of w x) = subst (λ r. exporter_by_journal w r x ≡ exporter_at_stop (exporter_of w x)) (eqb-true (from_of w x) rank e) (exporter_journaled x) in
+          let j : exporter_by_journal w rank x ≡ exporter_at_stop (exporter_of w x) =
+          subst (λ r. exporter_by_journal w r x ≡ exporter_at_stop (exporter_of w x)) (eqb-true (from_of w x) rank e)
+          (exporter_journaled x) in
           subst (λ s. ExporterHalts (exporter_of w x) s) (sym j) (stop_exporter (exporter_of w x))
       go false e = inl refl
 
   restart_importers : (x : ℕ) → ImporterHalts (has w (to_of w x) (JournalEntry.Dropped x)) (importer_of w x) (get_or (restarts w rank).importers x Unknown)
   restart_importers x = elim (cases_lt x (length w.importers)) [
-    | inl near ↦ rw (map_at_get (λ y state. cond (eqb (to_of w y) rank) (importer_by_journal w rank y) state) w.importers x Unknown Unknown near) (go (eqb (to_of w x) rank) refl)
-    | inr far ↦ inl (map_at_past (λ y state. cond (eqb (to_of w y) rank) (importer_by_journal w rank y) state) w.importers x Unknown far ∙ sym (get_or_past w.importers x Unknown far))
+    | inl near ↦ rw (map_at_get (λ y state. cond (eqb (to_of w y) rank) (importer_by_journal w rank y) state) w.importers x Unknown Unknown
+        near) (go (eqb (to_of w x) rank) refl)
+    | inr far ↦ inl (map_at_past (λ y state. cond (eqb (to_of w y) rank) (importer_by_journal w rank y) state) w.importers x Unknown far
+        ∙ sym (get_or_past w.importers x Unknown far))
   ]
     where
       go : (b : Bool) → eqb (to_of w x) rank ≡ b →
           ImporterHalts (has w (to_of w x) (JournalEntry.Dropped x)) (importer_of w x) (cond b (importer_by_journal w rank x) (importer_of w x))
       go true e =
           let j : importer_by_journal w rank x ≡ importer_at_stop (has w (to_of w x) (JournalEntry.Dropped x)) (importer_of w x) =
-          subst (λ r. importer_by_journal w r x ≡ importer_at_stop (has w (to_of w x) (JournalEntry.Dropped x)) (importer_of w x)) (eqb-true (to_of w x) rank e) (importer_journaled x) in
-          subst (λ s. ImporterHalts (has w (to_of w x) (JournalEntry.Dropped x)) (importer_of w x) s) (sym j) (stop_importer (has w (to_of w x) (JournalEntry.Dropped x)) (importer_of w x))
+          subst (λ r. importer_by_journal w r x ≡ importer_at_stop (has w (to_of w x) (JournalEntry.Dropped x)) (importer_of w x))
+          (eqb-true (to_of w x) rank e) (importer_journaled x) in
+          subst (λ s. ImporterHalts (has w (to_of w x) (JournalEntry.Dropped x)) (importer_of w x) s) (sym j)
+          (stop_importer (has w (to_of w x) (JournalEntry.Dropped x)) (importer_of w x))
       go false e = inl refl
 
   pub stop_keeps : Safe (happens w (Stop rank)).world

@@ -88,7 +88,8 @@ pub record Tables (count : ℕ) (from to : ℕ → ℕ) (exporter : ℕ → Expo
   pub exported : (r x : ℕ) → has r (JournalEntry.Exported x) ≡ (eqb r (from x) && is_committed (exporter x))
   pub notified : (r x : ℕ) → has r (JournalEntry.Notified x) ≡ (eqb r (from x) && is_done (exporter x))
   pub imported : (r x : ℕ) → has r (JournalEntry.Imported x) ≡ (eqb r (to x) && is_imported (importer x))
-  pub importing : (r x : ℕ) → (has r (JournalEntry.Started x) && not (has r (JournalEntry.Imported x)) && not (has r (JournalEntry.Dropped x))) ≡ (eqb r (to x) && is_started (importer x))
+  pub importing : (r x : ℕ) → (has r (JournalEntry.Started x) && not (has r (JournalEntry.Imported x))
+      && not (has r (JournalEntry.Dropped x))) ≡ (eqb r (to x) && is_started (importer x))
   pub dropped : (r x : ℕ) → has r (JournalEntry.Dropped x) ≡ true → (r ≡ to x) × (importer x ≡ Dropped)
   pub known : (k : ℕ) (m : Message) → sent k ≡ Some m → about m < count
   pub finish : (k x : ℕ) → sent k ≡ Some (Finish x) → exporter x ≡ Done
@@ -167,8 +168,10 @@ module _ (count : ℕ) (from to : ℕ → ℕ) (exporter : ℕ → ExporterState
 
   -- an entry only on directories
   pub entry_tables : (has' : ℕ → JournalEntry → Bool) →
-      ((r x : ℕ) → has' r (JournalEntry.Exported x) ≡ has r (JournalEntry.Exported x)) → ((r x : ℕ) → has' r (JournalEntry.Notified x) ≡ has r (JournalEntry.Notified x)) →
-      ((r x : ℕ) → has' r (JournalEntry.Imported x) ≡ has r (JournalEntry.Imported x)) → ((r x : ℕ) → has' r (JournalEntry.Started x) ≡ has r (JournalEntry.Started x)) →
+      ((r x : ℕ) → has' r (JournalEntry.Exported x) ≡ has r (JournalEntry.Exported x))
+      → ((r x : ℕ) → has' r (JournalEntry.Notified x) ≡ has r (JournalEntry.Notified x)) →
+      ((r x : ℕ) → has' r (JournalEntry.Imported x) ≡ has r (JournalEntry.Imported x))
+      → ((r x : ℕ) → has' r (JournalEntry.Started x) ≡ has r (JournalEntry.Started x)) →
       ((r x : ℕ) → has' r (JournalEntry.Dropped x) ≡ has r (JournalEntry.Dropped x)) → Tables count from to exporter importer has' sent
   entry_tables has' e n i s d = record {
     paired = old.paired;
@@ -226,7 +229,14 @@ module _ (count : ℕ) (from to : ℕ → ℕ) (exporter : ℕ → ExporterState
     exported = λ r y. grind (arith, old.exported r y, adds r (JournalEntry.Exported y), cases_eq y x, others y);
     notified = λ r y. grind (arith, old.notified r y, adds r (JournalEntry.Notified y), cases_eq y x, others y);
     imported = λ r y. rw (adds r (JournalEntry.Imported y), kept_flag (has r (JournalEntry.Imported y)) (eqb r (from x))) (old.imported r y);
-    importing = λ r y. rw (adds r (JournalEntry.Started y), adds r (JournalEntry.Imported y), adds r (JournalEntry.Dropped y), kept_flag (has r (JournalEntry.Started y)) (eqb r (from x)), kept_flag (has r (JournalEntry.Imported y)) (eqb r (from x)), kept_flag (has r (JournalEntry.Dropped y)) (eqb r (from x))) (old.importing r y);
+    importing = λ r y. rw (
+      adds r (JournalEntry.Started y),
+      adds r (JournalEntry.Imported y),
+      adds r (JournalEntry.Dropped y),
+      kept_flag (has r (JournalEntry.Started y)) (eqb r (from x)),
+      kept_flag (has r (JournalEntry.Imported y)) (eqb r (from x)),
+      kept_flag (has r (JournalEntry.Dropped y)) (eqb r (from x)),
+    ) (old.importing r y);
     dropped = λ r y h. old.dropped r y (rw (adds r (JournalEntry.Dropped y), kept_flag (has r (JournalEntry.Dropped y)) (eqb r (from x))) at h);
     known = old.known;
     finish = λ k y h. grind (arith, old.finish k y h, cases_eq y x, others y);
@@ -239,11 +249,22 @@ module _ (count : ℕ) (from to : ℕ → ℕ) (exporter : ℕ → ExporterState
       ((r : ℕ) (e : JournalEntry) → has' r e ≡ (has r e || (eqb r (from x) && is_same (JournalEntry.Notified x) e))) →
       exporter x ≡ Logged → exporter' x ≡ Done → Tables count from to exporter' importer has' sent
   notify_tables exporter' has' x others adds was is = record {
-    paired = λ y. elim (cases_eq y x) [ inl e ↦ rw (e, is) (let h : is_started (importer x) ≡ true = rw was at (old.paired x) in rw h refl) | inr n ↦ rw (others y n) (old.paired y) ];
+    paired = λ y. elim (cases_eq y x) [
+      | inl e ↦ rw (e, is) (let h : is_started (importer x) ≡ true = rw was at (old.paired x) in rw h refl)
+      | inr n
+          ↦ rw (others y n) (old.paired y)
+    ];
     exported = λ r y. grind (arith, old.exported r y, adds r (JournalEntry.Exported y), cases_eq y x, others y);
     notified = λ r y. grind (arith, old.notified r y, adds r (JournalEntry.Notified y), cases_eq y x, others y);
     imported = λ r y. rw (adds r (JournalEntry.Imported y), kept_flag (has r (JournalEntry.Imported y)) (eqb r (from x))) (old.imported r y);
-    importing = λ r y. rw (adds r (JournalEntry.Started y), adds r (JournalEntry.Imported y), adds r (JournalEntry.Dropped y), kept_flag (has r (JournalEntry.Started y)) (eqb r (from x)), kept_flag (has r (JournalEntry.Imported y)) (eqb r (from x)), kept_flag (has r (JournalEntry.Dropped y)) (eqb r (from x))) (old.importing r y);
+    importing = λ r y. rw (
+      adds r (JournalEntry.Started y),
+      adds r (JournalEntry.Imported y),
+      adds r (JournalEntry.Dropped y),
+      kept_flag (has r (JournalEntry.Started y)) (eqb r (from x)),
+      kept_flag (has r (JournalEntry.Imported y)) (eqb r (from x)),
+      kept_flag (has r (JournalEntry.Dropped y)) (eqb r (from x)),
+    ) (old.importing r y);
     dropped = λ r y h. old.dropped r y (rw (adds r (JournalEntry.Dropped y), kept_flag (has r (JournalEntry.Dropped y)) (eqb r (from x))) at h);
     known = old.known;
     finish = λ k y h. grind (arith, old.finish k y h, cases_eq y x, others y);
@@ -262,7 +283,11 @@ module _ (count : ℕ) (from to : ℕ → ℕ) (exporter : ℕ → ExporterState
     notified = old.notified;
     imported = λ r y. elim (cases_eq y x) [ inl e ↦ rw (e, imp') (rw imp at (old.imported r x)) | inr n ↦ rw (others y n) (old.imported r y) ];
     importing = λ r y. elim (cases_eq y x) [ inl e ↦ rw (e, sta') (rw sta at (old.importing r x)) | inr n ↦ rw (others y n) (old.importing r y) ];
-    dropped = λ r y h. elim (cases_eq y x) [ inl e ↦ rw e ((rw e at (old.dropped r y h)).0, drop (rw e at (old.dropped r y h)).1) | inr n ↦ rw (others y n) (old.dropped r y h) ];
+    dropped = λ r y h. elim (cases_eq y x) [
+      | inl e ↦ rw e ((rw e at (old.dropped r y h)).0, drop (rw e at (old.dropped r y h)).1)
+      | inr n
+          ↦ rw (others y n) (old.dropped r y h)
+    ];
     known = old.known;
     finish = old.finish;
     cancel = old.cancel;
@@ -278,7 +303,17 @@ module _ (count : ℕ) (from to : ℕ → ℕ) (exporter : ℕ → ExporterState
     exported = λ r y. rw (adds r (JournalEntry.Exported y), kept_flag (has r (JournalEntry.Exported y)) (eqb r (to x))) (old.exported r y);
     notified = λ r y. rw (adds r (JournalEntry.Notified y), kept_flag (has r (JournalEntry.Notified y)) (eqb r (to x))) (old.notified r y);
     imported = λ r y. grind (arith, old.imported r y, adds r (JournalEntry.Imported y), cases_eq y x, others y);
-    importing = λ r y. grind (arith, old.importing r y, old.imported r y, old.dropped r y, adds r (JournalEntry.Started y), adds r (JournalEntry.Imported y), adds r (JournalEntry.Dropped y), cases_eq y x, others y);
+    importing = λ r y. grind (
+      arith,
+      old.importing r y,
+      old.imported r y,
+      old.dropped r y,
+      adds r (JournalEntry.Started y),
+      adds r (JournalEntry.Imported y),
+      adds r (JournalEntry.Dropped y),
+      cases_eq y x,
+      others y,
+    );
     dropped = λ r y h.
         let k : has r (JournalEntry.Dropped y) ≡ true = rw (adds r (JournalEntry.Dropped y), kept_flag (has r (JournalEntry.Dropped y)) (eqb r (to x))) at h in
         let o : (r ≡ to y) × (importer y ≡ Dropped) = old.dropped r y k in
@@ -302,8 +337,18 @@ module _ (count : ℕ) (from to : ℕ → ℕ) (exporter : ℕ → ExporterState
       | inr n ↦ rw (others y n, adds r (JournalEntry.Imported y), other_flag (has r (JournalEntry.Imported y)) (eqb r (to x)) x y n) (old.imported r y)
     ];
     importing = λ r y. elim (cases_eq y x) [
-      | inl e ↦ rw (e, is, adds r (JournalEntry.Started x), adds r (JournalEntry.Imported x), adds r (JournalEntry.Dropped x)) (imported_flags (has r (JournalEntry.Started x)) (has r (JournalEntry.Imported x)) (has r (JournalEntry.Dropped x)) (eqb r (to x)) x (rw was at (old.importing r x)))
-      | inr n ↦ rw (others y n, adds r (JournalEntry.Started y), adds r (JournalEntry.Imported y), adds r (JournalEntry.Dropped y), kept_flag (has r (JournalEntry.Started y)) (eqb r (to x)), other_flag (has r (JournalEntry.Imported y)) (eqb r (to x)) x y n, kept_flag (has r (JournalEntry.Dropped y)) (eqb r (to x))) (old.importing r y)
+      | inl e ↦ rw (e, is, adds r (JournalEntry.Started x), adds r (JournalEntry.Imported x), adds r (JournalEntry.Dropped x))
+          (imported_flags (has r (JournalEntry.Started x)) (has r (JournalEntry.Imported x)) (has r (JournalEntry.Dropped x)) (eqb r (to x))
+          x (rw was at (old.importing r x)))
+      | inr n ↦ rw (
+        others y n,
+        adds r (JournalEntry.Started y),
+        adds r (JournalEntry.Imported y),
+        adds r (JournalEntry.Dropped y),
+        kept_flag (has r (JournalEntry.Started y)) (eqb r (to x)),
+        other_flag (has r (JournalEntry.Imported y)) (eqb r (to x)) x y n,
+        kept_flag (has r (JournalEntry.Dropped y)) (eqb r (to x)),
+      ) (old.importing r y)
     ];
     dropped = λ r y h.
         let k : has r (JournalEntry.Dropped y) ≡ true = rw (adds r (JournalEntry.Dropped y), kept_flag (has r (JournalEntry.Dropped y)) (eqb r (to x))) at h in
@@ -325,8 +370,18 @@ module _ (count : ℕ) (from to : ℕ → ℕ) (exporter : ℕ → ExporterState
     notified = λ r y. rw (adds r (JournalEntry.Notified y), kept_flag (has r (JournalEntry.Notified y)) (eqb r (to x))) (old.notified r y);
     imported = λ r y. grind (arith, old.imported r y, adds r (JournalEntry.Imported y), cases_eq y x, others y);
     importing = λ r y. elim (cases_eq y x) [
-      | inl e ↦ rw (e, is, adds r (JournalEntry.Started x), adds r (JournalEntry.Imported x), adds r (JournalEntry.Dropped x)) (dropped_flags (has r (JournalEntry.Started x)) (has r (JournalEntry.Imported x)) (has r (JournalEntry.Dropped x)) (eqb r (to x)) x (rw was at (old.importing r x)))
-      | inr n ↦ rw (others y n, adds r (JournalEntry.Started y), adds r (JournalEntry.Imported y), adds r (JournalEntry.Dropped y), kept_flag (has r (JournalEntry.Started y)) (eqb r (to x)), kept_flag (has r (JournalEntry.Imported y)) (eqb r (to x)), other_flag (has r (JournalEntry.Dropped y)) (eqb r (to x)) x y n) (old.importing r y)
+      | inl e ↦ rw (e, is, adds r (JournalEntry.Started x), adds r (JournalEntry.Imported x), adds r (JournalEntry.Dropped x))
+          (dropped_flags (has r (JournalEntry.Started x)) (has r (JournalEntry.Imported x)) (has r (JournalEntry.Dropped x)) (eqb r (to x))
+          x (rw was at (old.importing r x)))
+      | inr n ↦ rw (
+        others y n,
+        adds r (JournalEntry.Started y),
+        adds r (JournalEntry.Imported y),
+        adds r (JournalEntry.Dropped y),
+        kept_flag (has r (JournalEntry.Started y)) (eqb r (to x)),
+        kept_flag (has r (JournalEntry.Imported y)) (eqb r (to x)),
+        other_flag (has r (JournalEntry.Dropped y)) (eqb r (to x)) x y n,
+      ) (old.importing r y)
     ];
     dropped = λ r y h. elim (cases_eq y x) [
       | inl e ↦ rw e (drop_flag (has r (JournalEntry.Dropped x)) r (to x) x (rw (e, adds r (JournalEntry.Dropped x)) at h) (λ k. (old.dropped r x k).0), is)
@@ -384,7 +439,8 @@ module _ (count : ℕ) (from to : ℕ → ℕ) (exporter : ℕ → ExporterState
   -- Imports whose state no entry gives are forgotten.
   pub halted_importers : (importer' : ℕ → ImporterState) →
       ((y : ℕ) → (importer' y ≡ importer y) ⊎
-      ((importer' y ≡ Unknown) × (is_started (importer y) ≡ false) × (is_imported (importer y) ≡ false) × (importer y ≡ Dropped → has (to y) (JournalEntry.Dropped y) ≡ false))) →
+      ((importer' y ≡ Unknown) × (is_started (importer y) ≡ false) × (is_imported (importer y) ≡ false)
+      × (importer y ≡ Dropped → has (to y) (JournalEntry.Dropped y) ≡ false))) →
       Tables count from to exporter importer' has sent
   halted_importers importer' states = record {
     paired = λ y. elim (states y) [ inl e ↦ rw e (old.paired y) | inr p ↦ rw p.0 (unknown_pair (exporter y) (importer y) p.1 p.2 (old.paired y)) ];
@@ -401,7 +457,9 @@ module _ (count : ℕ) (from to : ℕ → ℕ) (exporter : ℕ → ExporterState
     cancel = old.cancel;
     acked = λ k y h. elim (states y) [
       | inl e ↦ rw e (old.acked k y h)
-      | inr p ↦ (let b : has (to y) (JournalEntry.Dropped y) ≡ true = only (is_started (importer y)) (is_imported (importer y)) (has (to y) (JournalEntry.Dropped y)) p.1 p.2 (old.acked k y h) in
+      | inr p ↦ (let b : has (to y) (JournalEntry.Dropped y)
+          ≡ true = only (is_started (importer y)) (is_imported (importer y)) (has (to y) (JournalEntry.Dropped y)) p.1 p.2
+          (old.acked k y h) in
           absurd (cc (p.3 (old.dropped (to y) y b).1, b)))
     ];
   }

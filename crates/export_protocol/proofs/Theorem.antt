@@ -1,5 +1,6 @@
 -- Each step keeps the invariant, so every list of events does, and the invariant gives what is promised.
-use Rattle.std.proofs.Common.{◌≡◌, ◌≢◌, ℕ, zero, suc, ◌<◌, ◌≤◌, Bool, true, false, ◌&&◌, not, eqb, leb, cond, List, [], ◌∷◌, length, get_or, set, Option, Some, None, refl, sym, ap, ◌∙◌, inl, inr, ◌⊎◌, arith, replicate}
+use Rattle.std.proofs.Common.{◌≡◌, ◌≢◌, ℕ, zero, suc, ◌<◌, ◌≤◌, Bool, true, false, ◌&&◌, not, eqb, leb, cond, List, []}
+use Rattle.std.proofs.Common.{◌∷◌, length, get_or, set, Option, Some, None, refl, sym, ap, ◌∙◌, inl, inr, ◌⊎◌, arith, replicate}
 use Rattle.std.proofs.lemmas.Bool.{and_parts, cases_Bool, cases_eq}
 use Rattle.std.specs.Option.{is_some}
 use Rattle.std.specs.List.{slice_get}
@@ -8,19 +9,23 @@ use Rattle.export_protocol.specs.declared.importer.ImporterState.{ImporterState}
 use Rattle.export_protocol.specs.declared.journal.JournalEntry.{JournalEntry}
 use Rattle.export_protocol.specs.declared.event.Request.{Request}
 use Rattle.export_protocol.specs.Cluster.{World}
-use Rattle.export_protocol.specs.Authority.{is_inside, from_of, to_of, exporter_of, importer_of, named_of, is_present, request_of, has, is_same, owns, IsAuthority, serves, any_below, is_held_in, authority, is_stopped}
+use Rattle.export_protocol.specs.Authority.{is_inside, from_of, to_of, exporter_of, importer_of, named_of, is_present, request_of, has}
+use Rattle.export_protocol.specs.Authority.{is_same, owns, IsAuthority, serves, any_below, is_held_in, authority, is_stopped}
 use Rattle.export_protocol.specs.declared.event.Event.{Event}
 use Rattle.export_protocol.specs.declared.step_error.StepError.{StepError}
-use Rattle.export_protocol.specs.Step.{causes, refusal, happens, step, answered, first, when, run, start, history_limit, counted, ignored, changed, journaled_by, restarts}
+use Rattle.export_protocol.specs.Step.{causes, refusal, happens, step, answered, first, when, run}
+use Rattle.export_protocol.specs.Step.{start, history_limit, counted, ignored, changed, journaled_by, restarts}
 use Rattle.export_protocol.specs.declared.event.Event.TheVariants.{Begin, End, Start, Deliver, Froze, Notify, Abort, Stop, Restart, Ask}
 use Rattle.export_protocol.proofs.Views.{push_other, not_past}
-use Rattle.export_protocol.specs.Promises.{IsTheAuthority, OneAuthority, ServedByAuthority, RequestsAtAuthority, IsBetweenLogAndNotify, MapNamed, NoneForGone, KeepsAuthority}
+use Rattle.export_protocol.specs.Promises.{IsTheAuthority, OneAuthority, ServedByAuthority, RequestsAtAuthority}
+use Rattle.export_protocol.specs.Promises.{IsBetweenLogAndNotify, MapNamed, NoneForGone, KeepsAuthority}
 use Rattle.export_protocol.proofs.Owning.{Phase, is_moving}
 use Rattle.export_protocol.proofs.Owning.Phase.{Early, Held, Moving, Told, Over}
 use Rattle.export_protocol.proofs.Tables.{is_committed, is_done}
 use Rattle.export_protocol.proofs.Safe.{Safe, phase_by, phase_of}
 use Rattle.export_protocol.proofs.Lookups.{or_else_none, itself, one_authority, some_authority, takes_over, taking_over, moving_open}
-use Rattle.export_protocol.proofs.Events.{NoneOf, none_of, froze_keeps, notify_keeps, abort_keeps, ask_keeps, delivered_keeps, end_keeps, begin_keeps, made_keeps, gone_keeps, start_keeps}
+use Rattle.export_protocol.proofs.Events.{NoneOf, none_of, froze_keeps, notify_keeps, abort_keeps, ask_keeps}
+use Rattle.export_protocol.proofs.Events.{delivered_keeps, end_keeps, begin_keeps, made_keeps, gone_keeps, start_keeps}
 use Rattle.export_protocol.proofs.Frame.{delivered_frame}
 use Rattle.export_protocol.proofs.Stops.{stop_keeps, restart_keeps}
 use Rattle.std.proofs.lemmas.List.{get_or-set_same, get_or-set_other, length-set}
@@ -118,13 +123,20 @@ module _ (w : World) (safe : Safe w) where
       two Held h = absurd (cc)
       two Over h = absurd (cc)
 
-      where_moving : (x r d : ℕ) → is_inside w x d ≡ true → is_moving (phase_of w x) ≡ true → named_of w d ≡ Some r → IsAuthority w r d ⊎ IsBetweenLogAndNotify w r d
+      where_moving : (x r d : ℕ) → is_inside w x d ≡ true → is_moving (phase_of w x) ≡ true → named_of w d ≡ Some r
+          → IsAuthority w r d ⊎ IsBetweenLogAndNotify w r d
       where_moving x r d i m n = elim (two (phase_of w x) m) [
         | inl e ↦
             (let placed : named_of w d ≡ Some (from_of w x) = rw e at (safe.owning.placed x d i (moving_open (phase_of w x) m)) in
             let f : r ≡ from_of w x = same_rank (from_of w x) r (sym placed ∙ n) in
             let l : (is_committed (exporter_of w x) ≡ true) × (is_done (exporter_of w x) ≡ false) = logged_alone (exporter_of w x) (importer_of w x) e in
-            inr (x, i, sym f, rw (f, safe.tables.exported (from_of w x) x, itself (from_of w x), l.0) refl, rw (f, safe.tables.notified (from_of w x) x, itself (from_of w x), l.1) refl))
+            inr (
+              x,
+              i,
+              sym f,
+              rw (f, safe.tables.exported (from_of w x) x, itself (from_of w x), l.0) refl,
+              rw (f, safe.tables.notified (from_of w x) x, itself (from_of w x), l.1) refl,
+            ))
         | inr e ↦
             (let placed : named_of w d ≡ Some (to_of w x) = rw e at (safe.owning.placed x d i (moving_open (phase_of w x) m)) in
             let f : r ≡ to_of w x = same_rank (to_of w x) r (sym placed ∙ n) in
@@ -210,7 +222,8 @@ module _ (limit ranks : ℕ) (some_rank : 1 ≤ ranks) where
       exported = λ r x. start_flag r (JournalEntry.Exported x) refl ∙ sym (no_flag r 0 false refl);
       notified = λ r x. start_flag r (JournalEntry.Notified x) refl ∙ sym (no_flag r 0 false refl);
       imported = λ r x. start_flag r (JournalEntry.Imported x) refl ∙ sym (no_flag r 0 false refl);
-      importing = λ r x. importing_none (has (start limit ranks) r (JournalEntry.Started x)) (has (start limit ranks) r (JournalEntry.Imported x)) (has (start limit ranks) r (JournalEntry.Dropped x))
+      importing = λ r x. importing_none (has (start limit ranks) r (JournalEntry.Started x))
+          (has (start limit ranks) r (JournalEntry.Imported x)) (has (start limit ranks) r (JournalEntry.Dropped x))
           (start_flag r (JournalEntry.Started x) refl) ∙ sym (no_flag r 0 false refl);
       dropped = λ r x h. absurd (cc (start_flag r (JournalEntry.Dropped x) refl, h));
       known = λ k m h. absurd (cc);

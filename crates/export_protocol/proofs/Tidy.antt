@@ -1,5 +1,6 @@
 -- Parents have smaller numbers, and no request runs at a stopped rank.
-use Rattle.std.proofs.Common.{◌≡◌, ◌≢◌, ℕ, zero, suc, ◌+◌, ◌-◌, ◌<◌, Bool, true, false, not, eqb, cond, List, [], ◌∷◌, ◌++◌, length, get_or, set, Some, None, refl, sym, ap, ◌∙◌, subst, inl, inr, arith, Option}
+use Rattle.std.proofs.Common.{◌≡◌, ◌≢◌, ℕ, zero, suc, ◌+◌, ◌-◌, ◌<◌, Bool, true, false, not, eqb, cond, List, []}
+use Rattle.std.proofs.Common.{◌∷◌, ◌++◌, length, get_or, set, Some, None, refl, sym, ap, ◌∙◌, subst, inl, inr, arith, Option}
 use Rattle.std.proofs.Math.Logic.{∥∥₁_elim}
 use Rattle.std.proofs.lemmas.Bool.{cases_lt, cases_eq, eqb-false, not-false}
 use Rattle.std.proofs.lemmas.List.{get_or-set_same, get_or-set_other, get_or_past, length-set}
@@ -72,7 +73,8 @@ module _ (w : World) (tidy : Tidy w) where
         | inr m ↦ tidy.lower d q (sym (push_other w.parents (Some p) None d m) ∙ h) n
       ]
 
-      wakes : (a : Option ℕ) (t : ℕ) (q : Request) → get_or (journaled_by w a e).tickets t None ≡ Some q → get_or (journaled_by w a e).stopped q.rank false ≡ false
+      wakes : (a : Option ℕ) (t : ℕ) (q : Request) → get_or (journaled_by w a e).tickets t None ≡ Some q
+          → get_or (journaled_by w a e).stopped q.rank false ≡ false
       wakes None t q h = tidy.awake t q h
       wakes (Some r) t q h = tidy.awake t q h
 
@@ -92,7 +94,8 @@ module _ (w : World) (tidy : Tidy w) where
         | inr m ↦ tidy.lower d q (sym (get_or-set_other w.parents c d None None m) ∙ h) n
       ]
 
-      wakes : (a : Option ℕ) (t : ℕ) (q : Request) → get_or (journaled_by w a e).tickets t None ≡ Some q → get_or (journaled_by w a e).stopped q.rank false ≡ false
+      wakes : (a : Option ℕ) (t : ℕ) (q : Request) → get_or (journaled_by w a e).tickets t None ≡ Some q
+          → get_or (journaled_by w a e).stopped q.rank false ≡ false
       wakes None t q h = tidy.awake t q h
       wakes (Some r) t q h = tidy.awake t q h
 
@@ -101,7 +104,9 @@ module _ (w : World) (tidy : Tidy w) where
     smaller = tidy.smaller;
     lower = tidy.lower;
     awake = λ t q h. elim (cases_eq t (length w.tickets)) [
-      | inl e ↦ subst (λ (r : Request). is_stopped w r.rank ≡ false) (same (record { rank = rank; dir = d }) q (sym (push_same w.tickets (Some (record { rank = rank; dir = d })) None) ∙ rw e at h)) up
+      | inl e ↦ subst (λ (r : Request). is_stopped w r.rank ≡ false)
+          (same (record { rank = rank; dir = d }) q (sym (push_same w.tickets (Some (record { rank = rank; dir = d })) None) ∙ rw e at h))
+          up
       | inr n ↦ tidy.awake t q (sym (push_other w.tickets (Some (record { rank = rank; dir = d })) None t n) ∙ h)
     ];
   }
@@ -125,7 +130,9 @@ module _ (w : World) (tidy : Tidy w) where
     lower = tidy.lower;
     awake = λ t q h. elim (cases_lt t (length w.tickets)) [
       | inl near ↦
-          (let e : (request_of w t ≡ Some q) × (q.rank ≢ rank) = ended_elsewhere rank (request_of w t) q (sym (map_at_get (λ u request. ends_at rank request) w.tickets t None None near) ∙ h) in
+          (let e : (request_of w t ≡ Some q) × (q.rank ≢ rank) =
+          ended_elsewhere rank (request_of w t) q (sym (map_at_get (λ u request. ends_at rank request) w.tickets t None None near)
+          ∙ h) in
           get_or-set_other w.stopped rank q.rank true false e.1 ∙ tidy.awake t q e.0)
       | inr far ↦ absurd (cc (map_at_past (λ u request. ends_at rank request) w.tickets t None far, h))
     ];
@@ -145,7 +152,8 @@ module _ (w : World) (tidy : Tidy w) where
   happens_tidy : (e : Event) → NoneOf (causes w e) → Tidy (happens w e).world
   unfolding happens causes
   happens_tidy (Event.Made p) h =
-      made_tidy (authority w p) (JournalEntry.Made (length w.parents)) p (w.named ++ authority w p ∷ []) (there_near w p (not-false (is_present w p) (not_refused (not (is_present w p)) StepError.NoDir h.0)))
+      made_tidy (authority w p) (JournalEntry.Made (length w.parents)) p (w.named ++ authority w p ∷ [])
+      (there_near w p (not-false (is_present w p) (not_refused (not (is_present w p)) StepError.NoDir h.0)))
   happens_tidy (Event.Gone d) h = gone_tidy (authority w d) (JournalEntry.Gone d) d (set w.named d None)
   happens_tidy (Begin r d) h = begin_tidy r d (not_refused (is_stopped w r) (StepError.Stopped r) h.1.0)
   happens_tidy (End t) h = end_tidy t
@@ -165,7 +173,8 @@ unfolding step
 step_tidy w tidy e = go (refusal w e) refl
   where
     go : (o : Option StepError) → refusal w e ≡ o → Tidy (answered w (happens w e) o).1
-    go None h = steady_tidy (happens w e).world (counted (happens w e).world) (record { parents = refl; tickets = refl; stopped = refl }) (happens_tidy w tidy e (not_refused_causes w e h))
+    go None h = steady_tidy (happens w e).world (counted (happens w e).world) (record { parents = refl; tickets = refl; stopped = refl })
+        (happens_tidy w tidy e (not_refused_causes w e h))
     go (Some r) h = tidy
 
 pub run_tidy : (es : List Event) (w : World) → Tidy w → Tidy (run w es)

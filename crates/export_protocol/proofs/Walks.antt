@@ -1,11 +1,13 @@
 -- The nearest owner is the authority, and what a log entry changes of the owners.
-use Rattle.std.proofs.Common.{◌≡◌, ◌≢◌, ℕ, zero, suc, ◌<◌, ◌≤◌, Bool, true, false, ◌||◌, not, eqb, cond, List, [], length, get_or, Option, Some, None, refl, sym, ap, ◌∙◌, subst, inl, inr, arith}
+use Rattle.std.proofs.Common.{◌≡◌, ◌≢◌, ℕ, zero, suc, ◌<◌, ◌≤◌, Bool, true, false, ◌||◌, not, eqb, cond, List}
+use Rattle.std.proofs.Common.{[], length, get_or, Option, Some, None, refl, sym, ap, ◌∙◌, subst, inl, inr, arith}
 use Rattle.std.specs.Option.{is_some}
 use Rattle.export_protocol.specs.declared.journal.JournalEntry.{JournalEntry}
 use Rattle.export_protocol.specs.declared.exporter.ExporterState.TheVariants.{Exporting, Logged}
 use Rattle.export_protocol.specs.declared.importer.ImporterState.TheVariants.{Started}
 use Rattle.export_protocol.specs.Cluster.{World}
-use Rattle.export_protocol.specs.Authority.{is_inside, from_of, to_of, exporter_of, importer_of, is_present, owns, is_taking_over, IsAuthority, authority, or_else}
+use Rattle.export_protocol.specs.Authority.{is_inside, from_of, to_of, exporter_of, importer_of, is_present}
+use Rattle.export_protocol.specs.Authority.{owns, is_taking_over, IsAuthority, authority, or_else}
 use Rattle.export_protocol.specs.Step.{exporter_to, journals}
 use Rattle.export_protocol.specs.Roots.{parent_of, same_rank, is_apart, AreOwners, above, nearest}
 use Rattle.export_protocol.proofs.Safe.{Safe, phase_of, log_safe, log_outside, log_near, exporter_phases, exporter_at}
@@ -78,7 +80,8 @@ module _ (w : World) (safe : Safe w) where
 -- owners and moves stay, so authorities do
 pub quiet_authority : (w v : World) → Safe w → Safe v → v.ranks ≡ w.ranks → (d : ℕ) →
     ((r : ℕ) → owns v r d ≡ owns w r d) →
-    ((x : ℕ) → is_inside w x d ≡ true → is_moving (phase_of w x) ≡ true → (is_inside v x d ≡ true) × (is_moving (phase_of v x) ≡ true) × (to_of v x ≡ to_of w x)) →
+    ((x : ℕ) → is_inside w x d ≡ true → is_moving (phase_of w x) ≡ true
+    → (is_inside v x d ≡ true) × (is_moving (phase_of v x) ≡ true) × (to_of v x ≡ to_of w x)) →
     ((x : ℕ) → is_inside v x d ≡ true → is_moving (phase_of v x) ≡ true → (is_inside w x d ≡ true) × (is_moving (phase_of w x) ≡ true)) →
     authority v d ≡ authority w d
 quiet_authority w v safe_w safe_v same d owners on back = authority_stays w v safe_w safe_v same d there again

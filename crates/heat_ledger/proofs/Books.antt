@@ -11,7 +11,8 @@ use Rattle.heat_ledger.proofs.Slots.{at_spread_hits, at_spread_begun, at_unit_sa
 use Rattle.heat_ledger.proofs.Shares.{apart, not_hit}
 
 -- a share's amounts rest on its weight after a deposit
-pub deposit_backed : (limit : ℕ) (v : TokenState) (weight : ℕ) (counts : CountsData) → IsShare limit v weight counts → (k : ℕ) → at v.amounts k ≤ v.parts * most → at (sums v.amounts (spread counts.pending)) k ≤ v.parts * most
+pub deposit_backed : (limit : ℕ) (v : TokenState) (weight : ℕ) (counts : CountsData) → IsShare limit v weight counts → (k : ℕ)
+    → at v.amounts k ≤ v.parts * most → at (sums v.amounts (spread counts.pending)) k ≤ v.parts * most
 deposit_backed limit v weight counts s k was = ⊎_elim
     (λ (h : (d : ℕ) × (k ≡ hit_slot d)).
     let d = h.0 in
@@ -28,21 +29,24 @@ deposit_backed limit v weight counts s k was = ⊎_elim
     omega arith)
     (entry_is k)
 
-pub deposit_book : (limit : ℕ) (v w : TokenState) (shares : ℕ) (counted begun pending : List ℕ) → IsBook limit v shares counted begun → length pending ≡ limit → w.has_totals ≡ true → w.amounts ≡ [] → w.parts ≡ v.parts
+pub deposit_book : (limit : ℕ) (v w : TokenState) (shares : ℕ) (counted begun pending : List ℕ) → IsBook limit v shares counted begun
+    → length pending ≡ limit → w.has_totals ≡ true → w.amounts ≡ [] → w.parts ≡ v.parts
     → ((k : ℕ) → at w.totals k ≡ at v.totals k + at (spread pending) k) → IsBook limit w shares (sums counted pending) begun
 deposit_book limit v w shares counted begun pending b l has_totals out parts totals = record {
   has_totals = has_totals;
   all_out = out;
   parts = (let p = b.parts in omega arith);
   some = b.some;
-  known = λ d. (let t = totals (hit_slot d) in let s = at_spread_hits pending d (hit_slot d) refl in let k = b.known d in let u = at_sums counted pending d in omega arith);
+  known = λ d. (let t = totals (hit_slot d) in let s = at_spread_hits pending d (hit_slot d) refl in let k = b.known d in
+      let u = at_sums counted pending d in omega arith);
   begins = λ d. (let t = totals (begun_slot d) in let s = at_spread_begun pending d (begun_slot d) refl in let k = b.begins d in omega arith);
   as_counted = length-sums counted pending (l ∙ sym b.as_counted) ∙ b.as_counted;
   as_begun = b.as_begun;
 }
 
 -- a share's amounts rest on its weight after a request
-pub begin_backed : (limit : ℕ) (v w : TokenState) (weight shares : ℕ) (counts : CountsData) (counted booked : List ℕ) (dir : ℕ) → IsShare limit v weight counts → IsBook limit w shares counted booked → at booked dir < most
+pub begin_backed : (limit : ℕ) (v w : TokenState) (weight shares : ℕ) (counts : CountsData) (counted booked : List ℕ) (dir : ℕ)
+    → IsShare limit v weight counts → IsBook limit w shares counted booked → at booked dir < most
     → (k : ℕ) → at v.amounts k ≤ at w.totals k → at v.amounts k ≤ v.parts * most → at (sums v.amounts (unit (begun_slot dir))) k ≤ v.parts * most
 begin_backed limit v w weight shares counts counted booked dir s b room k under was = by-cases (ℕ_discrete k (begun_slot dir))
   where
@@ -61,7 +65,8 @@ begin_backed limit v w weight shares counts counted booked dir s b room k under 
         omega arith
 
 -- a share's requests fit after one more
-pub begin_fits : (limit : ℕ) (v : TokenState) (weight : ℕ) (counts : CountsData) (dir : ℕ) → IsShare limit v weight counts → at (sums v.amounts (unit (begun_slot dir))) (begun_slot dir) ≤ v.parts * most
+pub begin_fits : (limit : ℕ) (v : TokenState) (weight : ℕ) (counts : CountsData) (dir : ℕ) → IsShare limit v weight counts
+    → at (sums v.amounts (unit (begun_slot dir))) (begun_slot dir) ≤ v.parts * most
     → at counts.begun dir + 1 < 18446744073709551616
 begin_fits limit v weight counts dir s back =
     let a = at_sums v.amounts (unit (begun_slot dir)) (begun_slot dir) in
@@ -71,7 +76,8 @@ begin_fits limit v weight counts dir s back =
     let weighs = s.weighs in
     omega arith
 
-pub begin_book : (limit : ℕ) (v w : TokenState) (shares dir : ℕ) (counted begun : List ℕ) → IsBook limit v shares counted begun → w.has_totals ≡ true → w.amounts ≡ [] → w.parts ≡ v.parts
+pub begin_book : (limit : ℕ) (v w : TokenState) (shares dir : ℕ) (counted begun : List ℕ) → IsBook limit v shares counted begun
+    → w.has_totals ≡ true → w.amounts ≡ [] → w.parts ≡ v.parts
     → ((k : ℕ) → at w.totals k ≡ at v.totals k + at (unit (begun_slot dir)) k) → dir < limit → IsBook limit w shares counted (raised begun dir)
 begin_book limit v w shares dir counted begun b has_totals out parts totals inside = record {
   has_totals = has_totals;
@@ -101,7 +107,9 @@ begin_book limit v w shares dir counted begun b has_totals out parts totals insi
         omega arith
 
 -- another token with the same totals serves as well
-pub same_book : (limit : ℕ) (v w : TokenState) (shares : ℕ) (counted begun : List ℕ) → IsBook limit v shares counted begun → w.has_totals ≡ true → w.amounts ≡ [] → w.parts ≡ v.parts → ((k : ℕ) → at w.totals k ≡ at v.totals k) → IsBook limit w shares counted begun
+pub same_book : (limit : ℕ) (v w : TokenState) (shares : ℕ) (counted begun : List ℕ) → IsBook limit v shares counted begun
+    → w.has_totals ≡ true → w.amounts ≡ [] → w.parts ≡ v.parts → ((k : ℕ) → at w.totals k ≡ at v.totals k)
+    → IsBook limit w shares counted begun
 same_book limit v w shares counted begun b has_totals out parts totals = record {
   has_totals = has_totals;
   all_out = out;
@@ -114,6 +122,9 @@ same_book limit v w shares counted begun b has_totals out parts totals = record 
 }
 
 -- the same, as the code writes it
-pub begin_book_at : (limit : ℕ) (v w : TokenState) (shares dir row a : ℕ) (counted begun : List ℕ) → IsBook limit v shares counted begun → w.has_totals ≡ true → w.amounts ≡ [] → w.parts ≡ v.parts
-    → ((k : ℕ) → at w.totals k ≡ at v.totals k + at (unit (begun_slot dir)) k) → dir < limit → row ≡ dir → a ≡ at begun dir → IsBook limit w shares counted (set begun row (a + 1))
-begin_book_at limit v w shares dir row a counted begun b has_totals out parts totals inside er ea = rw (er, ea) (begin_book limit v w shares dir counted begun b has_totals out parts totals inside)
+pub begin_book_at : (limit : ℕ) (v w : TokenState) (shares dir row a : ℕ) (counted begun : List ℕ) → IsBook limit v shares counted begun
+    → w.has_totals ≡ true → w.amounts ≡ [] → w.parts ≡ v.parts
+    → ((k : ℕ) → at w.totals k ≡ at v.totals k + at (unit (begun_slot dir)) k) → dir < limit → row ≡ dir → a ≡ at begun dir
+    → IsBook limit w shares counted (set begun row (a + 1))
+begin_book_at limit v w shares dir row a counted begun b has_totals out parts totals inside er ea =
+    rw (er, ea) (begin_book limit v w shares dir counted begun b has_totals out parts totals inside)

@@ -1,5 +1,6 @@
 -- Directories that are in a list once.
-use Rattle.std.proofs.Common.{◌≡◌, ◌≢◌, ℕ, zero, suc, ◌+◌, ◌<◌, ◌≤◌, ◌==◌, List, [], ◌∷◌, ◌++◌, Bool, true, false, if◌then◌else◌, set, length, refl, sym, ap, ◌∙◌, arith, subst, inl, inr}
+use Rattle.std.proofs.Common.{◌≡◌, ◌≢◌, ℕ, zero, suc, ◌+◌, ◌<◌, ◌≤◌, ◌==◌, List, [], ◌∷◌, ◌++◌, Bool}
+use Rattle.std.proofs.Common.{true, false, if◌then◌else◌, set, length, refl, sym, ap, ◌∙◌, arith, subst, inl, inr}
 use Rattle.std.proofs.lemmas.Bool.Decides.{nat_tests, leb_tells}
 use native.Mathlib.Decide.{ℕ_discrete}
 use Rattle.heat_ledger.specs.Rows.{at, IsZero}
@@ -31,7 +32,8 @@ times_push [] d e = omega arith
 times_push (x ∷ xs) d e = step (λ e. times_push xs d e) (ℕ_discrete x e)
   where
     step : ((e : ℕ) → times (xs ++ d ∷ []) e ≡ times xs e + times (d ∷ []) e) → Dec (x ≡ e) → times (x ∷ (xs ++ d ∷ [])) e ≡ times (x ∷ xs) e + times (d ∷ []) e
-    step rest (yes s) = subst (λ (e : ℕ). times (x ∷ (xs ++ d ∷ [])) e ≡ times (x ∷ xs) e + times (d ∷ []) e) s (omega (arith, times_same x (xs ++ d ∷ []), times_same x xs, rest x))
+    step rest (yes s) = subst (λ (e : ℕ). times (x ∷ (xs ++ d ∷ [])) e ≡ times (x ∷ xs) e + times (d ∷ []) e) s
+        (omega (arith, times_same x (xs ++ d ∷ []), times_same x xs, rest x))
     step rest (no n) = omega (arith, times_other x e (xs ++ d ∷ []) n, times_other x e xs n, rest e)
 
 -- what is at two places is there at least twice
@@ -54,7 +56,8 @@ unfolding without
 length-without e [] = omega arith
 length-without e (d ∷ ds) = step (d == e) (length-without e ds)
   where
-    step : (b : Bool) → length ds ≡ length (without e ds) + times ds e → length (d ∷ ds) ≡ length (if b then without e ds else d ∷ without e ds) + (if b then 1 + times ds e else times ds e)
+    step : (b : Bool) → length ds ≡ length (without e ds) + times ds e
+        → length (d ∷ ds) ≡ length (if b then without e ds else d ∷ without e ds) + (if b then 1 + times ds e else times ds e)
     step true rest = omega arith
     step false rest = omega arith
 
@@ -65,7 +68,15 @@ times-without_le e x (d ∷ ds) = step (d == e) (times-without_le e x ds) (ℕ_d
   where
     step : (b : Bool) → times (without e ds) x ≤ times ds x → Dec (d ≡ x) → times (if b then without e ds else d ∷ without e ds) x ≤ times (d ∷ ds) x
     step true rest same = omega (arith, times_more d x ds)
-    step false rest (yes s) = omega (arith, ap (times (d ∷ without e ds)) s, ap (times (d ∷ ds)) s, times_same d (without e ds), times_same d ds, ap (times (without e ds)) s, ap (times ds) s)
+    step false rest (yes s) = omega (
+      arith,
+      ap (times (d ∷ without e ds)) s,
+      ap (times (d ∷ ds)) s,
+      times_same d (without e ds),
+      times_same d ds,
+      ap (times (without e ds)) s,
+      ap (times ds) s,
+    )
     step false rest (no n) = omega (arith, times_other d x (without e ds) n, times_other d x ds n)
 
 times-without_same : (e : ℕ) (ds : List ℕ) → times (without e ds) e ≡ 0
@@ -82,7 +93,8 @@ pub few : (limit : ℕ) (ds : List ℕ) → ((d : ℕ) → times ds d ≤ 1) →
 few zero [] once below = omega arith
 few zero (d ∷ ds) once below = absurd (omega (arith, times_same d ds, below d (omega arith)))
 few (suc limit) ds once below =
-    let rest : length (without limit ds) ≤ limit = few limit (without limit ds) (λ d. omega (arith, times-without_le limit d ds, once d)) (λ d h. at_limit d h (ℕ_discrete limit d)) in
+    let rest : length (without limit ds) ≤ limit = few limit (without limit ds) (λ d. omega (arith, times-without_le limit d ds, once d))
+    (λ d h. at_limit d h (ℕ_discrete limit d)) in
     omega (arith, length-without limit ds, once limit, rest)
   where
     at_limit : (d : ℕ) → limit ≤ d → Dec (limit ≡ d) → times (without limit ds) d ≡ 0
@@ -144,15 +156,18 @@ pub tracked_zero : (counts : List ℕ) → IsZero counts → IsTracked counts []
 tracked_zero counts none = record { once = λ d. ap mark (sym (none d)) }
 
 -- a count changes that stays 0, or that was there and still is
-pub tracked_raised : (counts touched : List ℕ) (d y : ℕ) → IsTracked counts touched → d < length counts → mark (at counts d) ≡ mark y → IsTracked (set counts d y) touched
+pub tracked_raised : (counts touched : List ℕ) (d y : ℕ) → IsTracked counts touched → d < length counts → mark (at counts d) ≡ mark y
+    → IsTracked (set counts d y) touched
 tracked_raised counts touched d y t inside same = record { once = λ e. each e (ℕ_discrete e d) }
   where
     each : (e : ℕ) → Dec (e ≡ d) → times touched e ≡ mark (at (set counts d y) e)
-    each e (yes s) = t.once e ∙ ap (λ (k : ℕ). mark (at counts k)) s ∙ same ∙ ap mark (sym (at_set_same counts d y inside)) ∙ ap (λ (k : ℕ). mark (at (set counts d y) k)) (sym s)
+    each e (yes s) = t.once e ∙ ap (λ (k : ℕ). mark (at counts k)) s ∙ same ∙ ap mark (sym (at_set_same counts d y inside))
+        ∙ ap (λ (k : ℕ). mark (at (set counts d y) k)) (sym s)
     each e (no n) = t.once e ∙ ap mark (sym (at_set_other counts d y e n))
 
 -- the first count of a directory
-pub tracked_first : (counts touched : List ℕ) (d y : ℕ) → IsTracked counts touched → d < length counts → at counts d ≡ 0 → 1 ≤ y → IsTracked (set counts d y) (touched ++ d ∷ [])
+pub tracked_first : (counts touched : List ℕ) (d y : ℕ) → IsTracked counts touched → d < length counts → at counts d ≡ 0 → 1 ≤ y
+    → IsTracked (set counts d y) (touched ++ d ∷ [])
 tracked_first counts touched d y t inside was now = record { once = λ e. each e (ℕ_discrete d e) }
   where
     each : (e : ℕ) → Dec (d ≡ e) → times (touched ++ d ∷ []) e ≡ mark (at (set counts d y) e)
@@ -161,7 +176,8 @@ tracked_first counts touched d y t inside was now = record { once = λ e. each e
     each e (no n) = omega (arith, times_push touched d e, times_other d e [] n, t.once e, ap mark (at_set_other counts d y e (λ q. n (sym q))))
 
 -- where the noted entries are 0, and the others were, all are
-pub settled : (new old touched : List ℕ) (d : ℕ) → IsTracked old touched → at new d ≤ at old d → ((k : ℕ) → k < length touched → at new (at touched k) ≡ 0) → Dec (at new d ≡ 0) → at new d ≡ 0
+pub settled : (new old touched : List ℕ) (d : ℕ) → IsTracked old touched → at new d ≤ at old d
+    → ((k : ℕ) → k < length touched → at new (at touched k) ≡ 0) → Dec (at new d ≡ 0) → at new d ≡ 0
 settled new old touched d t less zeros (yes e) = e
 settled new old touched d t less zeros (no n) = let o = tracked_others old touched d t (λ j h e. n (ap (at new) (sym e) ∙ zeros j h)) in omega arith
 

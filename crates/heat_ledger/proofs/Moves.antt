@@ -14,12 +14,16 @@ off : (v : TokenState) → v.has_totals ≡ false → v.has_totals ≡ true → 
 off v n y = true≢false (sym y ∙ n)
 
 -- a new token with these amounts, of which the authority's totals know
-pub issues : (id : ℕ) (v : TokenState) (parts : ℕ) (amounts rest extra : List ℕ) → CanIssue parts amounts rest extra v → (views : List TokenState) → IsBalanced views → get_elem? views id ≡ some v → IsBalanced (set views id (after_issue parts rest extra v) ++ share_state parts amounts ∷ [])
+pub issues : (id : ℕ) (v : TokenState) (parts : ℕ) (amounts rest extra : List ℕ) → CanIssue parts amounts rest extra v
+    → (views : List TokenState) → IsBalanced views → get_elem? views id ≡ some v
+    → IsBalanced (set views id (after_issue parts rest extra v) ++ share_state parts amounts ∷ [])
 issues id v parts amounts rest extra can views b here =
     let w = after_issue parts rest extra v in
     let n = share_state parts amounts in
     let mine = b.sums id v here can.has_totals in
-    let sum : (f : TokenState → ℕ) → sum_over f (set views id w ++ n ∷ []) + f v ≡ sum_over f views + f w + f n = λ f. (let s = total_set f views id v w here in let t = total_snoc f (set views id w) n in omega arith) in
+    let sum : (f : TokenState → ℕ) → sum_over f (set views id w ++ n ∷ []) + f v
+    ≡ sum_over f views + f w + f n = λ f. (let s = total_set f views id v w here in let t = total_snoc f (set views id w) n in
+    omega arith) in
     record {
       token = b.token;
       whole = (let s = sum (λ u. u.parts) in let a = b.whole in omega arith);
@@ -43,7 +47,8 @@ issues id v parts amounts rest extra can views b here =
           (at_snoc (set views id w) n u by e);
     }
 
-pub splits : (id : ℕ) (v : TokenState) (parts : ℕ) (amounts rest extra : List ℕ) → CanIssue parts amounts rest extra v → Splits IsBalancedTable id v (after_issue parts rest extra v) (share_state parts amounts)
+pub splits : (id : ℕ) (v : TokenState) (parts : ℕ) (amounts rest extra : List ℕ) → CanIssue parts amounts rest extra v
+    → Splits IsBalancedTable id v (after_issue parts rest extra v) (share_state parts amounts)
 splits id v parts amounts rest extra can s h here = issues id v parts amounts rest extra can s.views h here
 
 -- a token takes in a holder's token
@@ -53,9 +58,14 @@ joins id v other w held s b here apart there =
     let one = both_of v w in
     let none = share_state 0 [] in
     let mid = set views id one in
-    let theirs : get_elem? views other ≡ some w = ⊎_elim (λ (t : (other ≡ id) × (one ≡ w)). absurd (apart t.0)) (λ (t : (other ≢ id) × (get_elem? views other ≡ some w)). t.1) (at_set views id other one w there) in
-    let sum : (f : TokenState → ℕ) → sum_over f (set mid other none) + f w + f v ≡ sum_over f views + f one + f none = λ f. (let p = total_set f views id v one here in let q = total_set f mid other w none there in omega arith) in
-    let amount : (k : ℕ) → sum_over (λ q. at q.amounts k) (set mid other none) ≡ sum_over (λ q. at q.amounts k) views = λ k. (let p = sum (λ q. at q.amounts k) in let a = at_sums v.amounts w.amounts k in omega arith) in
+    let theirs : get_elem? views other ≡ some w = ⊎_elim (λ (t : (other ≡ id) × (one ≡ w)). absurd (apart t.0))
+    (λ (t : (other ≢ id) × (get_elem? views other ≡ some w)). t.1) (at_set views id other one w there) in
+    let sum : (f : TokenState → ℕ) → sum_over f (set mid other none) + f w + f v
+    ≡ sum_over f views + f one + f none = λ f. (let p = total_set f views id v one here in let q = total_set f mid other w none there in
+    omega arith) in
+    let amount : (k : ℕ) → sum_over (λ q. at q.amounts k) (set mid other none)
+    ≡ sum_over (λ q. at q.amounts k) views = λ k. (let p = sum (λ q. at q.amounts k) in let a = at_sums v.amounts w.amounts k in
+    omega arith) in
     record {
       token = b.token;
       whole = (let p = sum (λ u. u.parts) in let a = b.whole in omega arith);

@@ -32,11 +32,14 @@ times_not : (e k : ℕ) → e ≢ k → times (e ∷ []) k ≡ 0
 times_not e k n = times_other e k [] n
 
 -- an entry for reads names its directory
-pub named_read : (counts es dirs : List ℕ) (h e : ℕ) → e ≡ h + h → ((d : ℕ) → times dirs d ≡ named counts es d) → (d : ℕ) → times (dirs ++ h ∷ []) d ≡ named counts (es ++ e ∷ []) d
+pub named_read : (counts es dirs : List ℕ) (h e : ℕ) → e ≡ h + h → ((d : ℕ) → times dirs d ≡ named counts es d) → (d : ℕ)
+    → times (dirs ++ h ∷ []) d ≡ named counts (es ++ e ∷ []) d
 named_read counts es dirs h e is was d = step (ℕ_discrete h d)
   where
     other : where_none (at counts (d + d)) (times (es ++ e ∷ []) (d + d + 1)) ≡ where_none (at counts (d + d)) (times es (d + d + 1))
-    other = ap (where_none (at counts (d + d))) (times_push es e (d + d + 1)) ∙ none_more (at counts (d + d)) (times es (d + d + 1)) (times (e ∷ []) (d + d + 1)) (times_not e (d + d + 1) (λ s. absurd (omega arith)))
+    other = ap (where_none (at counts (d + d))) (times_push es e (d + d + 1))
+        ∙ none_more (at counts (d + d)) (times es (d + d + 1)) (times (e ∷ []) (d + d + 1))
+        (times_not e (d + d + 1) (λ s. absurd (omega arith)))
 
     step : Dec (h ≡ d) → times (dirs ++ h ∷ []) d ≡ named counts (es ++ e ∷ []) d
     step (yes s) = omega (arith, times_push dirs h d, times_one h d s, was d, times_push es e (d + d), times_one e (d + d) (omega arith), other)
@@ -49,11 +52,14 @@ write_is_no_read es h e d is = omega (arith, times_push es e (d + d), times_not 
 other_write : (counts es : List ℕ) (h e d : ℕ) → e ≡ h + h + 1 → h ≢ d → named counts (es ++ e ∷ []) d ≡ named counts es d
 other_write counts es h e d is n =
     let other : where_none (at counts (d + d)) (times (es ++ e ∷ []) (d + d + 1)) ≡ where_none (at counts (d + d)) (times es (d + d + 1)) =
-    ap (where_none (at counts (d + d))) (times_push es e (d + d + 1)) ∙ none_more (at counts (d + d)) (times es (d + d + 1)) (times (e ∷ []) (d + d + 1)) (times_not e (d + d + 1) (λ s. n (omega arith))) in
+    ap (where_none (at counts (d + d))) (times_push es e (d + d + 1))
+    ∙ none_more (at counts (d + d)) (times es (d + d + 1)) (times (e ∷ []) (d + d + 1))
+    (times_not e (d + d + 1) (λ s. n (omega arith))) in
     omega (arith, write_is_no_read es h e d is, other)
 
 -- an entry for writes names its directory where that has no reads
-pub named_write : (counts es dirs : List ℕ) (h e : ℕ) → e ≡ h + h + 1 → at counts (h + h) ≡ 0 → ((d : ℕ) → times dirs d ≡ named counts es d) → (d : ℕ) → times (dirs ++ h ∷ []) d ≡ named counts (es ++ e ∷ []) d
+pub named_write : (counts es dirs : List ℕ) (h e : ℕ) → e ≡ h + h + 1 → at counts (h + h) ≡ 0 → ((d : ℕ) → times dirs d ≡ named counts es d)
+    → (d : ℕ) → times (dirs ++ h ∷ []) d ≡ named counts (es ++ e ∷ []) d
 named_write counts es dirs h e is none was d = step (ℕ_discrete h d)
   where
     step : Dec (h ≡ d) → times (dirs ++ h ∷ []) d ≡ named counts (es ++ e ∷ []) d
@@ -73,7 +79,8 @@ named_write counts es dirs h e is none was d = step (ℕ_discrete h d)
     step (no n) = omega (arith, times_push dirs h d, times_not h d n, was d, other_write counts es h e d is n)
 
 -- and not where it has reads, which name it
-pub named_again : (counts es dirs : List ℕ) (h e : ℕ) → e ≡ h + h + 1 → 1 ≤ at counts (h + h) → ((d : ℕ) → times dirs d ≡ named counts es d) → (d : ℕ) → times dirs d ≡ named counts (es ++ e ∷ []) d
+pub named_again : (counts es dirs : List ℕ) (h e : ℕ) → e ≡ h + h + 1 → 1 ≤ at counts (h + h) → ((d : ℕ) → times dirs d ≡ named counts es d)
+    → (d : ℕ) → times dirs d ≡ named counts (es ++ e ∷ []) d
 named_again counts es dirs h e is some was d = step (ℕ_discrete h d)
   where
     step : Dec (h ≡ d) → times dirs d ≡ named counts (es ++ e ∷ []) d
@@ -104,7 +111,8 @@ mark_both zero y = let e : y ≡ 0 + y = omega arith in omega (arith, ap mark e)
 mark_both (suc x) y = sym (mark_some (suc x + y) (omega arith))
 
 -- where the entries are those that have a count, the directories are those that have one
-pub named_tracked : (counts es dirs : List ℕ) (n : ℕ) → length counts ≡ n + n → ((d : ℕ) → times dirs d ≡ named counts es d) → IsTracked counts es → IsTracked (pair_sums counts) dirs
+pub named_tracked : (counts es dirs : List ℕ) (n : ℕ) → length counts ≡ n + n → ((d : ℕ) → times dirs d ≡ named counts es d)
+    → IsTracked counts es → IsTracked (pair_sums counts) dirs
 named_tracked counts es dirs n even is t = record { once = λ d. once d }
   where
     once : (d : ℕ) → times dirs d ≡ mark (at (pair_sums counts) d)

@@ -71,11 +71,21 @@ pub sum_row : (new xs ys : List ℕ) → length new ≡ length xs → length ys 
 sum_row new xs ys e f h = same_rows new (sums xs ys) (e ∙ sym (length-sums xs ys f)) (λ k. h k ∙ sym (at_sums xs ys k))
 
 -- an entry that moves from one row to another
-pub moved_entry : (into from : List ℕ) (d v dir : ℕ) → d < length into → d < length from → v ≡ at into d + at from d → at (set into d v) dir + at (set from d 0) dir ≡ at into dir + at from dir
+pub moved_entry : (into from : List ℕ) (d v dir : ℕ) → d < length into → d < length from → v ≡ at into d + at from d
+    → at (set into d v) dir + at (set from d 0) dir ≡ at into dir + at from dir
 moved_entry into from d v dir inside within is = entry (ℕ_discrete dir d)
   where
     entry : Dec (dir ≡ d) → at (set into d v) dir + at (set from d 0) dir ≡ at into dir + at from dir
-    entry (yes e) = omega (arith, is, ap (at (set into d v)) e, at_set_same into d v inside, ap (at (set from d 0)) e, at_set_same from d 0 within, ap (at into) e, ap (at from) e)
+    entry (yes e) = omega (
+      arith,
+      is,
+      ap (at (set into d v)) e,
+      at_set_same into d v inside,
+      ap (at (set from d 0)) e,
+      at_set_same from d 0 within,
+      ap (at into) e,
+      ap (at from) e,
+    )
     entry (no n) = omega (arith, at_set_other into d v dir n, at_set_other from d 0 dir n)
 
 pub emptied_entry : (from : List ℕ) (d dir : ℕ) → d < length from → at (set from d 0) dir ≤ at from dir
@@ -85,7 +95,8 @@ emptied_entry from d dir within = entry (ℕ_discrete dir d)
     entry (yes e) = omega (arith, ap (at (set from d 0)) e, at_set_same from d 0 within)
     entry (no n) = omega (arith, at_set_other from d 0 dir n)
 
-pub emptied_next : (from noted : List ℕ) (d j k : ℕ) → d ≡ at noted j → d < length from → (k < j → at from (at noted k) ≡ 0) → k < j + 1 → at (set from d 0) (at noted k) ≡ 0
+pub emptied_next : (from noted : List ℕ) (d j k : ℕ) → d ≡ at noted j → d < length from → (k < j → at from (at noted k) ≡ 0) → k < j + 1
+    → at (set from d 0) (at noted k) ≡ 0
 emptied_next from noted d j k is within before less = entry (ℕ_discrete (at noted k) d) (ℕ_discrete k j)
   where
     entry : Dec (at noted k ≡ d) → Dec (k ≡ j) → at (set from d 0) (at noted k) ≡ 0

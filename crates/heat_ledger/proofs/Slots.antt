@@ -60,6 +60,7 @@ entry_is zero = inl (0, omega arith)
 entry_is (suc zero) = inr (0, omega arith)
 entry_is (suc (suc k)) = after (entry_is k)
   where
-    after : {k : ℕ} → ((d : ℕ) × (k ≡ hit_slot d)) ⊎ ((d : ℕ) × (k ≡ begun_slot d)) → ((d : ℕ) × (suc (suc k) ≡ hit_slot d)) ⊎ ((d : ℕ) × (suc (suc k) ≡ begun_slot d))
+    after : {k : ℕ} → ((d : ℕ) × (k ≡ hit_slot d)) ⊎ ((d : ℕ) × (k ≡ begun_slot d))
+        → ((d : ℕ) × (suc (suc k) ≡ hit_slot d)) ⊎ ((d : ℕ) × (suc (suc k) ≡ begun_slot d))
     after (inl h) = let e = h.1 in inl (suc h.0, omega arith)
     after (inr h) = let e = h.1 in inr (suc h.0, omega arith)

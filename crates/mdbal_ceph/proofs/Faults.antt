@@ -1,5 +1,6 @@
 -- From what is wrong with a file to why a folder is not read.
-use Rattle.std.proofs.Common.{◌≡◌, ◌∙◌, ◌&&◌, ◌++◌, ◌∷◌, [], ℕ, suc, All, Bool, List, Option, Result, Ok, Err, OnErr, ap, arith, codes, false, get_or, is_some, map, refl, subst, sym, true}
+use Rattle.std.proofs.Common.{◌≡◌, ◌∙◌, ◌&&◌, ◌++◌, ◌∷◌, [], ℕ, suc, All, Bool, List, Option, Result, Ok}
+use Rattle.std.proofs.Common.{Err, OnErr, ap, arith, codes, false, get_or, is_some, map, refl, subst, sym, true}
 use Rattle.std.specs.List.{IsAmong, filter, range_with_len}
 use Rattle.std.proofs.lemmas.List.{get_or_default, get_or-map, length-map}
 use Rattle.std.proofs.lemmas.List.Elements.{All-append, All-filter, All-map, filter_passes}
@@ -15,8 +16,11 @@ use Rattle.ceph_snapshot.specs.Facts.{Fact, Root, Value, roots_in}
 use Rattle.ceph_snapshot.specs.Heard.{ClaimsByFact, ClaimsFragment, IsToldTwice}
 use Rattle.mds_types.specs.RankSet.{has_rank}
 use Rattle.mdbal_ceph.specs.Collections.{Adds}
-use Rattle.mdbal_ceph.specs.Causes.{AreRanksIn, DumpFile, IsClaimOf, IsElsewhere, IsFileCause, IsFolderFault, IsGrowth, IsListedRoot, IsNamedBy, IsNeeded, IsNoBytes, IsRankIn, IsReadInto, IsRefusedFile, IsToRead, IsTwiceClaimed, IsUnclaimedIn, IsUnread, dump_name}
-use Rattle.mdbal_ceph.specs.Dumps.{AreInodes, AreRankDumps, DumpKind, DumpValue, IsRankDump, IsRootsFile, RankDump, all_seen, file_in, rank_facts, ranks_below, root_facts, subtrees_file}
+use Rattle.mdbal_ceph.specs.Causes.{AreRanksIn, DumpFile, IsClaimOf, IsElsewhere, IsFileCause, IsFolderFault, IsGrowth}
+use Rattle.mdbal_ceph.specs.Causes.{IsListedRoot, IsNamedBy, IsNeeded, IsNoBytes, IsRankIn, IsReadInto, IsRefusedFile}
+use Rattle.mdbal_ceph.specs.Causes.{IsToRead, IsTwiceClaimed, IsUnclaimedIn, IsUnread, dump_name}
+use Rattle.mdbal_ceph.specs.Dumps.{AreInodes, AreRankDumps, DumpKind, DumpValue, IsRankDump, IsRootsFile, RankDump}
+use Rattle.mdbal_ceph.specs.Dumps.{all_seen, file_in, rank_facts, ranks_below, root_facts, subtrees_file}
 use Rattle.mdbal_ceph.specs.Folder.{Failed, FileContent, IsInFile, IsInFileIfAny, Missing}
 use Rattle.mdbal_ceph.specs.NoResults.{claim_error, doubt_error, growth_error}
 use Rattle.mdbal_ceph.specs.declared.no_result.FileFault.{FileFault}
@@ -51,8 +55,10 @@ module _ (reads : List ℕ → FileContent → Type 0) (says : List ℕ → Dump
   growth_in other h = absurd h
 
   -- this is wrong with a file of the folder
-  pub file_in_folder : (file : DumpFile) (name : List ℕ) (P : FileFault → Type 0) (e : NoResult) → IsToRead reads says refuses folder file → name ≡ dump_name folder file
-      → ((one : FileFault) → P one → IsFileCause reads says refuses (dump_name folder file) file one) → IsNamedBy name P e → IsFolderFault reads says refuses folder e
+  pub file_in_folder : (file : DumpFile) (name : List ℕ) (P : FileFault → Type 0) (e : NoResult) → IsToRead reads says refuses folder file
+      → name ≡ dump_name folder file
+      → ((one : FileFault) → P one → IsFileCause reads says refuses (dump_name folder file) file one) → IsNamedBy name P e
+      → IsFolderFault reads says refuses folder e
   file_in_folder file name P why.Memory to_read is cause h = tt
   file_in_folder file name P (why.File told one) to_read is cause h = (file, to_read, h.0 ∙ is, cause one h.1)
   file_in_folder file name P other to_read is cause h = absurd h
@@ -83,10 +89,13 @@ module _ (reads : List ℕ → FileContent → Type 0) (says : List ℕ → Dump
       → IsInFile reads (IsRefusedFile refuses file) name error → IsNamedBy name (λ one. one ≡ fault.Refused error) e → IsFolderFault reads says refuses folder e
   refused_in file name e error to_read is bytes h =
       file_in_folder file name (λ one. one ≡ fault.Refused error) e to_read is
-      (λ one u. subst (λ f. IsFileCause reads says refuses (dump_name folder file) file f) (sym u) (subst (λ n. IsInFile reads (IsRefusedFile refuses file) n error) is bytes)) h
+      (λ one u. subst (λ f. IsFileCause reads says refuses (dump_name folder file) file f) (sym u)
+      (subst (λ n. IsInFile reads (IsRefusedFile refuses file) n error) is bytes)) h
 
   -- roots that aren't added, by claims
-  pub claim_in : (e : SnapshotError) → ((path : PathText) (one two : ℕ) → e ≡ doubt.TwoClaims path one two → IsTwiceClaimed reads says refuses folder (string_bytes path) one two)
+  pub claim_in : (e : SnapshotError)
+      → ((path : PathText) (one two : ℕ) → e ≡ doubt.TwoClaims path one two
+      → IsTwiceClaimed reads says refuses folder (string_bytes path) one two)
       → IsFolderFault reads says refuses folder (claim_error e)
   claim_in (doubt.TwoClaims path one two) twice = twice path one two refl
   claim_in doubt.Memory twice = tt
@@ -105,28 +114,34 @@ module _ (reads : List ℕ → FileContent → Type 0) (says : List ℕ → Dump
   doubt_in (doubt.TwoClaims path one two) elsewhere unclaimed = tt
 
   -- a rank that claims a fragment by what was listed
-  claim_of : (numbers : Option (List ListedDir)) (facts : List Fact) (first : ℕ) (fragment : List ℕ) → All (IsListedRoot reads says refuses folder numbers) facts → ClaimsFragment facts first fragment
+  claim_of : (numbers : Option (List ListedDir)) (facts : List Fact) (first : ℕ) (fragment : List ℕ)
+      → All (IsListedRoot reads says refuses folder numbers) facts → ClaimsFragment facts first fragment
       → (one : SubtreeRoot) × IsClaimOf reads says refuses folder numbers first fragment one
-  claim_of numbers facts first fragment listed claim = by claim.0 (subst (IsListedRoot reads says refuses folder numbers) (sym claim.1.1.1) (listed claim.1.0 claim.0 claim.1.1.0)) claim.2 where
-    by : (f : Fact) → IsListedRoot reads says refuses folder numbers f → ClaimsByFact first fragment f → (one : SubtreeRoot) × IsClaimOf reads says refuses folder numbers first fragment one
-    by (Root rank root) here claims = (
-      root,
-      record {
-        rank_in = subst (IsRankIn reads says refuses folder) claims.0 here.0;
-        roots = here.1;
-        roots_are = subst (λ r. IsRootsFile reads says numbers (subtrees_file folder r) here.1) claims.0 here.2;
-        among = here.3;
-        here = claims.1;
-        named = claims.2;
-      },
-    )
-    by (Value dir) here claims = absurd claims
+  claim_of numbers facts first fragment listed claim =
+      by claim.0 (subst (IsListedRoot reads says refuses folder numbers) (sym claim.1.1.1) (listed claim.1.0 claim.0 claim.1.1.0)) claim.2
+    where
+      by : (f : Fact) → IsListedRoot reads says refuses folder numbers f → ClaimsByFact first fragment f
+          → (one : SubtreeRoot) × IsClaimOf reads says refuses folder numbers first fragment one
+      by (Root rank root) here claims = (
+        root,
+        record {
+          rank_in = subst (IsRankIn reads says refuses folder) claims.0 here.0;
+          roots = here.1;
+          roots_are = subst (λ r. IsRootsFile reads says numbers (subtrees_file folder r) here.1) claims.0 here.2;
+          among = here.3;
+          here = claims.1;
+          named = claims.2;
+        },
+      )
+      by (Value dir) here claims = absurd claims
 
   -- a claim of two ranks, by what the gathering says
   pub twice_claimed : (rank : ℕ) (numbers : Option (List ListedDir)) (roots others : List SubtreeRoot) (facts : List Fact) (path : PathText) (one two : ℕ)
-      → IsInFileIfAny reads AreInodes (file_in folder (codes "inodes")) numbers → All (IsListedRoot reads says refuses folder numbers) facts → IsRankIn reads says refuses folder rank
+      → IsInFileIfAny reads AreInodes (file_in folder (codes "inodes")) numbers → All (IsListedRoot reads says refuses folder numbers) facts
+      → IsRankIn reads says refuses folder rank
       → IsRootsFile reads says numbers (subtrees_file folder rank) roots → others ≡ roots
-      → ((root : SubtreeRoot) × IsAmong others root × IsToldTwice facts root rank path one two) → IsTwiceClaimed reads says refuses folder (string_bytes path) one two
+      → ((root : SubtreeRoot) × IsAmong others root × IsToldTwice facts root rank path one two)
+      → IsTwiceClaimed reads says refuses folder (string_bytes path) one two
   twice_claimed rank numbers roots others facts path one two numbers_are listed there roots_are same twice =
       let told = twice.2 in
       let first = claim_of numbers facts one told.fragment listed told.first_of in
@@ -150,7 +165,8 @@ module _ (reads : List ℕ → FileContent → Type 0) (says : List ℕ → Dump
       }
 
   -- the roots that were listed in the dumps of ranks
-  listed_one : (numbers : Option (List ListedDir)) (rank : ℕ) (roots : List SubtreeRoot) → IsRankIn reads says refuses folder rank → IsRootsFile reads says numbers (subtrees_file folder rank) roots
+  listed_one : (numbers : Option (List ListedDir)) (rank : ℕ) (roots : List SubtreeRoot) → IsRankIn reads says refuses folder rank
+      → IsRootsFile reads says numbers (subtrees_file folder rank) roots
       → All (IsListedRoot reads says refuses folder numbers) (roots_in rank roots)
   listed_one numbers rank roots there roots_are =
       let P : Fact → Type 0 = IsListedRoot reads says refuses folder numbers in
@@ -167,8 +183,10 @@ module _ (reads : List ℕ → FileContent → Type 0) (says : List ℕ → Dump
       (listed_all numbers count dumps (λ k d l. there (suc k) d (omega (arith, l))) (λ k d l. each (suc k) d (omega (arith, l))))
 
   -- with the dumps of more ranks
-  pub read_more : (numbers : Option (List ListedDir)) (count ranks n : ℕ) (dumps : List RankDump) (old new : Gathering) → IsReadInto reads says refuses folder numbers count old
-      → AreRanksIn reads says refuses folder ranks → AreRankDumps reads says numbers folder count (ranks_below ranks n) dumps → Adds old new (all_seen dumps) (root_facts dumps)
+  pub read_more : (numbers : Option (List ListedDir)) (count ranks n : ℕ) (dumps : List RankDump) (old new : Gathering)
+      → IsReadInto reads says refuses folder numbers count old
+      → AreRanksIn reads says refuses folder ranks → AreRankDumps reads says numbers folder count (ranks_below ranks n) dumps
+      → Adds old new (all_seen dumps) (root_facts dumps)
       → IsReadInto reads says refuses folder numbers count new
   read_more numbers count ranks n dumps old new was there are adds =
       let of_set : All (λ r. has_rank ranks r ≡ true) (map (λ (d : RankDump). d.rank) dumps) =
@@ -176,10 +194,12 @@ module _ (reads : List ℕ → FileContent → Type 0) (says : List ℕ → Dump
       let in_set : All (λ (d : RankDump). IsRankIn reads says refuses folder d.rank) dumps =
       λ k d l.
       there (get_or dumps k d).rank
-      (subst (λ r. has_rank ranks r ≡ true) (get_or-map (λ (d : RankDump). d.rank) dumps k d d.rank l) (of_set k d.rank (omega (arith, l, length-map dumps (λ (d : RankDump). d.rank))))) in
+      (subst (λ r. has_rank ranks r ≡ true) (get_or-map (λ (d : RankDump). d.rank) dumps k d d.rank l)
+      (of_set k d.rank (omega (arith, l, length-map dumps (λ (d : RankDump). d.rank))))) in
       record {
         read = was.read;
         facts = was.facts ++ root_facts dumps;
         told = adds.told was.facts was.told;
-        listed = All-append (IsListedRoot reads says refuses folder numbers) was.facts (root_facts dumps) was.listed (listed_all numbers count dumps in_set are.each);
+        listed = All-append (IsListedRoot reads says refuses folder numbers) was.facts (root_facts dumps) was.listed
+            (listed_all numbers count dumps in_set are.each);
       }

@@ -1,5 +1,6 @@
 -- What is gathered of dumps, one after another.
-use Rattle.std.proofs.Common.{◌≡◌, ◌≢◌, ◌∙◌, ◌+◌, ◌<◌, ◌++◌, ◌∷◌, [], ℕ, All, Bool, true, false, List, Option, append-nil, append_assoc, ap, arith, cond, get_or, map, refl, subst, sym, ⊎_elim}
+use Rattle.std.proofs.Common.{◌≡◌, ◌≢◌, ◌∙◌, ◌+◌, ◌<◌, ◌++◌, ◌∷◌, [], ℕ, All, Bool, true, false}
+use Rattle.std.proofs.Common.{List, Option, append-nil, append_assoc, ap, arith, cond, get_or, map, refl, subst, sym, ⊎_elim}
 use Rattle.std.specs.List.{filter, flat_map, range_with_len}
 use Rattle.std.specs.Option.{option_map}
 use Rattle.std.proofs.lemmas.Bool.{cases_eq}
@@ -21,7 +22,8 @@ use Rattle.ceph_snapshot.specs.declared.gathering.Gathering.{Gathering}
 use Rattle.ceph_snapshot.specs.declared.snapshot.Snapshot.{Snapshot}
 use Rattle.ceph_snapshot.specs.declared.tree.Node.{Node}
 use Rattle.mdbal_ceph.specs.Collections.{Adds, HasGathered, IsSnapshotOf}
-use Rattle.mdbal_ceph.specs.Dumps.{AreRankDumps, AreSamples, DumpValue, IsLoadsFile, IsRankDump, RankDump, all_seen, loads_file, rank_facts, rank_seen, ranks_below, ranks_if, root_facts}
+use Rattle.mdbal_ceph.specs.Dumps.{AreRankDumps, AreSamples, DumpValue, IsLoadsFile, IsRankDump, RankDump, all_seen}
+use Rattle.mdbal_ceph.specs.Dumps.{loads_file, rank_facts, rank_seen, ranks_below, ranks_if, root_facts}
 use Rattle.mdbal_ceph.specs.Folder.{FileContent}
 
 pub adds_none : (g : Gathering) → Adds g g [] []
@@ -65,7 +67,8 @@ module _ (reads : List ℕ → FileContent → Type 0) (says : List ℕ → Dump
   pub dumps_none : (count : ℕ) → AreRankDumps reads says numbers folder count [] []
   dumps_none count = record { these = refl; each = λ k d l. absurd (omega (arith, l)) }
 
-  pub dumps_one : (count : ℕ) (dump : RankDump) → IsRankDump reads says numbers folder count dump → AreRankDumps reads says numbers folder count (dump.rank ∷ []) (dump ∷ [])
+  pub dumps_one : (count : ℕ) (dump : RankDump) → IsRankDump reads says numbers folder count dump
+      → AreRankDumps reads says numbers folder count (dump.rank ∷ []) (dump ∷ [])
   dumps_one count dump here = record {
     these = refl;
     each = λ k d l.
@@ -81,7 +84,8 @@ module _ (reads : List ℕ → FileContent → Type 0) (says : List ℕ → Dump
     each = All-append (IsRankDump reads says numbers folder count) dumps others one.each two.each;
   }
 
-pub adds_dumps : (a b c : Gathering) (xs ys : List RankDump) → Adds a b (all_seen xs) (root_facts xs) → Adds b c (all_seen ys) (root_facts ys) → Adds a c (all_seen (xs ++ ys)) (root_facts (xs ++ ys))
+pub adds_dumps : (a b c : Gathering) (xs ys : List RankDump) → Adds a b (all_seen xs) (root_facts xs)
+    → Adds b c (all_seen ys) (root_facts ys) → Adds a c (all_seen (xs ++ ys)) (root_facts (xs ++ ys))
 adds_dumps a b c xs ys one two =
     subst (λ (s : List PathHeat). Adds a c s (root_facts (xs ++ ys))) (sym (flat_map-append rank_seen xs ys))
     (subst (λ (f : List Fact). Adds a c (all_seen xs ++ all_seen ys) f) (sym (flat_map-append rank_facts xs ys))
@@ -93,7 +97,8 @@ adds_dump a b dump adds =
     (subst (Adds a b (rank_seen dump)) (sym (append-nil (rank_facts dump))) adds)
 
 -- what is added where nothing was gathered
-pub gathered : (a b : Gathering) (s : List PathHeat) (f : List Fact) → a.tree.seen ≡ [] → HasTold a [] → a.is_listed ≡ false → a.is_numbered ≡ false → Adds a b s f → HasGathered s f false false b
+pub gathered : (a b : Gathering) (s : List PathHeat) (f : List Fact) → a.tree.seen ≡ [] → HasTold a [] → a.is_listed ≡ false
+    → a.is_numbered ≡ false → Adds a b s f → HasGathered s f false false b
 gathered a b s f seen told listed numbered adds = record {
   seen_is = adds.seen_more ∙ ap (λ (xs : List PathHeat). xs ++ s) seen;
   told = adds.told [] told;
@@ -104,13 +109,17 @@ gathered a b s f seen told listed numbered adds = record {
 -- the first n + 1 ranks of a set
 pub ranks_more : (ranks n : ℕ) → ranks_below ranks (n + 1) ≡ ranks_below ranks n ++ ranks_if ranks n
 ranks_more ranks n =
-    let e : filter (has_rank ranks) (map (λ (r : ℕ). r) (range_with_len 0 (n + 1))) ≡ filter (has_rank ranks) (map (λ (r : ℕ). r) (range_with_len 0 n)) ++ cond (has_rank ranks n) (n ∷ []) [] =
+    let e : filter (has_rank ranks) (map (λ (r : ℕ). r) (range_with_len 0 (n + 1)))
+    ≡ filter (has_rank ranks) (map (λ (r : ℕ). r) (range_with_len 0 n)) ++ cond (has_rank ranks n) (n ∷ []) [] =
     filter_of_map_range_with_len_more (has_rank ranks) (λ (r : ℕ). r) 0 n n (omega arith) in
-    ap (filter (has_rank ranks)) (sym (map-id (range_with_len 0 (n + 1)))) ∙ (e ∙ ap (λ (rs : List ℕ). filter (has_rank ranks) rs ++ cond (has_rank ranks n) (n ∷ []) []) (map-id (range_with_len 0 n)))
+    ap (filter (has_rank ranks)) (sym (map-id (range_with_len 0 (n + 1))))
+    ∙ (e ∙ ap (λ (rs : List ℕ). filter (has_rank ranks) rs ++ cond (has_rank ranks n) (n ∷ []) []) (map-id (range_with_len 0 n)))
 
 -- the directories of what was gathered
-pub snapshot_of : (g : Gathering) (snapshot : Snapshot) (seen : List PathHeat) (facts : List Fact) (listed numbered : Bool) (count : ℕ) (own : List OwnPin) (ranks : ℕ) → HasGathered seen facts listed numbered g
-    → ((placed : List Node) × LieAsClaimed g.tree.nodes placed × All (λ said. is_true_of placed said ≡ true) g.hearsay.items × LieAt placed snapshot.directories.items)
+pub snapshot_of : (g : Gathering) (snapshot : Snapshot) (seen : List PathHeat) (facts : List Fact) (listed numbered : Bool) (count : ℕ)
+    (own : List OwnPin) (ranks : ℕ) → HasGathered seen facts listed numbered g
+    → ((placed : List Node) × LieAsClaimed g.tree.nodes placed × All (λ said. is_true_of placed said ≡ true) g.hearsay.items
+    × LieAt placed snapshot.directories.items)
     → All (HasSeen g.tree.seen count) snapshot.directories.items
     → ((i : ℕ) → numbers_at snapshot.directories.items i ≡ option_map (with_numbers g.is_numbered g.tree.seen) (path_pin_at g.tree.nodes i))
     → have_left g.is_numbered g.tree.seen g.tree.nodes ≡ false
@@ -131,7 +140,8 @@ snapshot_of g snapshot seen facts listed numbered count own ranks all authority 
       (subst (λ (b : Bool). have_left b g.tree.seen g.tree.nodes ≡ false) all.numbered_is here);
   numbers = λ i.
       subst (λ (s : List PathHeat). numbers_at snapshot.directories.items i ≡ option_map (with_numbers numbered s) (path_pin_at g.tree.nodes i)) all.seen_is
-      (subst (λ (b : Bool). numbers_at snapshot.directories.items i ≡ option_map (with_numbers b g.tree.seen) (path_pin_at g.tree.nodes i)) all.numbered_is (numbers i));
+      (subst (λ (b : Bool). numbers_at snapshot.directories.items i ≡ option_map (with_numbers b g.tree.seen) (path_pin_at g.tree.nodes i))
+      all.numbered_is (numbers i));
   owner = owner;
   borne_out = subst (λ (b : Bool). BearsOut facts b g.tree.nodes snapshot) all.listed_is (told facts all.told);
 }

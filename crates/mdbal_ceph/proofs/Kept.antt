@@ -4,7 +4,8 @@ use Rattle.ceph_snapshot.specs.declared.directory.Directory.{Directory}
 use Rattle.ceph_snapshot.specs.Policies.{IsLeftKept, KeepUnpinnable, StillKeepUnpinnable}
 use Rattle.ceph_folding.specs.Folding.{StillKept}
 
-pub kept_through : (collected units left : List Directory) → KeepUnpinnable collected → StillKept collected units → StillKept units left → StillKeepUnpinnable collected left
+pub kept_through : (collected units left : List Directory) → KeepUnpinnable collected → StillKept collected units → StillKept units left
+    → StillKeepUnpinnable collected left
 kept_through collected units left keep one other i later inside unpinnable =
     let first : IsLeftKept collected units i = one i later inside ((keep i later inside).1 unpinnable) in
     let second : IsLeftKept units left first.place = other first.place first.below first.inside first.kept in

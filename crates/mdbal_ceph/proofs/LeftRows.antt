@@ -19,7 +19,8 @@ use Rattle.ceph_pins.specs.Left.{IsLeft}
 use Rattle.ceph_pins.specs.OwnPins.{AreOwnPins}
 use Rattle.ceph_report.specs.Amounts.{goal_at, goal_of}
 
-pub left_stays : (directories : List Directory) (leave : List (List ℕ)) (holds : List Held) (rows : List ProblemRow) (own : List OwnPins) (wanted : Wanted) (plan : Planned)
+pub left_stays : (directories : List Directory) (leave : List (List ℕ)) (holds : List Held) (rows : List ProblemRow) (own : List OwnPins)
+    (wanted : Wanted) (plan : Planned)
     (found : List PinRow) → length rows ≡ length directories → ((i : ℕ) → i < length directories → problem.now_at rows i ≡ now_at directories i)
     → AreOwnPins directories leave (length directories) own
     → ArePinRows rows plan.part.items plan.packing.rank.items own (length rows) wanted.rests found → KeepsWithin rows wanted own plan

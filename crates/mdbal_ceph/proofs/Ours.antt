@@ -9,7 +9,8 @@ use Rattle.ceph_snapshot.specs.Gathered.{PathPin, WhosePin, path_pin_at, whose_p
 use Rattle.mdbal_ceph.specs.Collections.{HasOwner}
 
 -- of one that is read
-owner_of : (own : List OwnPin) (ranks : ℕ) (d : Directory) (at : Option PathPin) → Some (whose_pin d) ≡ option_map (with_owner own ranks) at → HasOwner own ranks d
+owner_of : (own : List OwnPin) (ranks : ℕ) (d : Directory) (at : Option PathPin) → Some (whose_pin d) ≡ option_map (with_owner own ranks) at
+    → HasOwner own ranks d
 owner_of own ranks d None is = absurd (none-some (whose_pin d) (sym is))
 owner_of own ranks d (Some at) is =
     let whose : whose_pin d ≡ with_owner own ranks at = ap (λ (o : Option WhosePin). option_map_or (λ (w : WhosePin). w) o (whose_pin d)) is in

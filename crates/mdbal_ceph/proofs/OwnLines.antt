@@ -1,5 +1,6 @@
 -- The list of this program's pins, as it is written and read back.
-use Rattle.std.proofs.Common.{◌≡◌, ◌≢◌, ◌↔◌, ◌∙◌, ◌==◌, ◌<◌, ◌^◌, ◌&&◌, ◌++◌, ◌∷◌, ℕ, zero, suc, Bool, true, false, List, [], All, Option, Some, None, ap, append_assoc, arith, drop, length, refl, subst, sym, take}
+use Rattle.std.proofs.Common.{◌≡◌, ◌≢◌, ◌↔◌, ◌∙◌, ◌==◌, ◌<◌, ◌^◌, ◌&&◌, ◌++◌, ◌∷◌, ℕ, zero, suc, Bool, true, false}
+use Rattle.std.proofs.Common.{List, [], All, Option, Some, None, ap, append_assoc, arith, drop, length, refl, subst, sym, take}
 use Rattle.std.specs.Prelude.{codes, decimal, is_some, map, nat_le, slice_get, slice_index, if◌then◌else◌}
 use Rattle.std.specs.Int.{IsInRange}
 use Rattle.std.specs.List.{flat_map}
@@ -12,7 +13,8 @@ use Rattle.std.proofs.lemmas.Fmt.{decimal_is_IsNumeral, digits_decimal, digits_v
 use Rattle.std.proofs.lemmas.List.Elements.{All-append, All-cons, All-head, All-nil, All-tail}
 use Rattle.std.proofs.lemmas.List.Splits.{slice_split_at}
 use Rattle.std.proofs.lemmas.Str.Parse.{IsDigitsTest, not_in_digits, numerals_by_value, tells_digits, without_leading_plus_none}
-use Rattle.ceph_dumps.specs.OwnList.{ArePinsOfList, IsNumberText, IsPinLine, RankPath, behind_digits, digit_count, has_octal, is_digit_to, line_pins, line_rank_path, list_lines, name_byte, named_bytes, octal_byte, rank_path}
+use Rattle.ceph_dumps.specs.OwnList.{ArePinsOfList, IsNumberText, IsPinLine, RankPath, behind_digits, digit_count, has_octal, is_digit_to}
+use Rattle.ceph_dumps.specs.OwnList.{line_pins, line_rank_path, list_lines, name_byte, named_bytes, octal_byte, rank_path}
 use Rattle.ceph_dumps.specs.declared.own_list.OwnPin.{OwnPin}
 use Rattle.ceph_pins.specs.OwnList.{own_line, own_lines, pin_line_of}
 use Rattle.ceph_snapshot.specs.declared.directory.Directory.{Directory}
@@ -26,7 +28,9 @@ and_no false = refl
 no_octal : (c : ℕ) (cs : List ℕ) → (c == 92) ≡ false → octal_byte (c ∷ cs) ≡ None
 no_octal c cs other =
     let none : has_octal (c ∷ cs) ≡ false =
-    ap (λ (b : Bool). nat_le 4 (length (c ∷ cs)) && (b && (is_digit_to 51 (slice_index (c ∷ cs) 1) && (is_digit_to 55 (slice_index (c ∷ cs) 2) && is_digit_to 55 (slice_index (c ∷ cs) 3))))) other
+    ap (λ (b : Bool). nat_le 4 (length (c ∷ cs))
+    && (b && (is_digit_to 51 (slice_index (c ∷ cs) 1)
+    && (is_digit_to 55 (slice_index (c ∷ cs) 2) && is_digit_to 55 (slice_index (c ∷ cs) 3))))) other
     ∙ and_no (nat_le 4 (length (c ∷ cs))) in
     rw none refl
 
@@ -36,7 +40,8 @@ named_other c cs other =
     ap (λ (byte : Option ℕ). unwrap_or byte c ∷ named_bytes (if is_some byte then 3 else 0) cs) (no_octal c cs other)
 
 -- an octal escape means its byte
-escape_read : (byte x y z : ℕ) (rest : List ℕ) → octal_byte (92 ∷ x ∷ y ∷ z ∷ rest) ≡ Some byte → named_bytes 0 (92 ∷ x ∷ y ∷ z ∷ rest) ≡ byte ∷ named_bytes 0 rest
+escape_read : (byte x y z : ℕ) (rest : List ℕ) → octal_byte (92 ∷ x ∷ y ∷ z ∷ rest) ≡ Some byte
+    → named_bytes 0 (92 ∷ x ∷ y ∷ z ∷ rest) ≡ byte ∷ named_bytes 0 rest
 escape_read byte x y z rest is =
     ap (λ (byte : Option ℕ). unwrap_or byte 92 ∷ named_bytes (if is_some byte then 3 else 0) (x ∷ y ∷ z ∷ rest)) is
 
@@ -91,7 +96,8 @@ no_newline_in_byte c false false false other line return = rw other (rw line (rw
 no_newline_in_name : (path : List ℕ) → All (λ c. (c == 10) ≡ false) (flat_map name_byte path)
 no_newline_in_name [] = All-nil _
 no_newline_in_name (c ∷ cs) =
-    All-append (λ c. (c == 10) ≡ false) (name_byte c) (flat_map name_byte cs) (no_newline_in_byte c (c == 92) (c == 10) (c == 13) refl refl refl) (no_newline_in_name cs)
+    All-append (λ c. (c == 10) ≡ false) (name_byte c) (flat_map name_byte cs)
+    (no_newline_in_byte c (c == 92) (c == 10) (c == 13) refl refl refl) (no_newline_in_name cs)
 
 -- the line of a pin, without its newline
 abbrev line_text : ℕ → List ℕ → List ℕ
@@ -109,7 +115,8 @@ line_cut rank path rest small =
     ap (λ (text : List ℕ). text ++ codes "\n" ++ rest) (append_assoc (decimal rank) (codes " ") name) ∙ append_assoc (line_text rank path) (codes "\n") rest in
     ap list_lines shape
     ∙ slice_split_at (λ byte. byte == 10) (line_text rank path) 10 rest
-    (All-append (λ c. (c == 10) ≡ false) (decimal rank) (32 ∷ name) (no_newline_in_digits (decimal rank) (decimal_digits rank small)) (All-cons (λ c. (c == 10) ≡ false) 32 name refl (no_newline_in_name path)))
+    (All-append (λ c. (c == 10) ≡ false) (decimal rank) (32 ∷ name) (no_newline_in_digits (decimal rank) (decimal_digits rank small))
+    (All-cons (λ c. (c == 10) ≡ false) 32 name refl (no_newline_in_name path)))
     refl
 
 -- what lies behind the digits of a line
@@ -151,7 +158,8 @@ digits_read rank path small =
 rank_fits : (rank : ℕ) → rank < 2 ^ 64 → IsNumberText (decimal rank)
 rank_fits rank small =
     let is : IsNumeral 10 (decimal rank) × (digits_value 10 (decimal rank) ≡ rank) = decimal_is_IsNumeral rank small in
-    let none : slice_index (decimal rank) 0 ≢ 43 = not_in_digits (numerals_by_value _ tells_digits) (decimal rank) 43 is.0.1 (λ (digit : IsInRange 48 57 43). omega (arith, digit)) 0 is.0.0 in
+    let none : slice_index (decimal rank) 0 ≢ 43 = not_in_digits (numerals_by_value _ tells_digits) (decimal rank) 43 is.0.1
+    (λ (digit : IsInRange 48 57 43). omega (arith, digit)) 0 is.0.0 in
     let bare : without_leading_plus (decimal rank) ≡ decimal rank = without_leading_plus_none (decimal rank) none in
     record {
       numeral = subst (IsNumeral 10) (sym bare) is.0;

@@ -5,7 +5,9 @@ use Rattle.mds_types.specs.Problem as problem
 use Rattle.ceph_snapshot.specs.declared.directory.Directory.{Directory}
 use Rattle.ceph_snapshot.specs.Holding.{AreParentsFirst, parent_at}
 
-root_of : (directories : List Directory) (rows : List ProblemRow) → ((i : ℕ) → i < length directories → problem.parent_at rows i ≡ parent_at directories i) → problem.IsForest rows → parent_at directories 0 ≡ 0
+root_of : (directories : List Directory) (rows : List ProblemRow)
+    → ((i : ℕ) → i < length directories → problem.parent_at rows i ≡ parent_at directories i) → problem.IsForest rows
+    → parent_at directories 0 ≡ 0
 root_of [] rows same forest = refl
 root_of (d ∷ directories) rows same forest =
     let some : 0 < length (d ∷ directories) = omega arith in

@@ -23,11 +23,14 @@ given_pinned : (directories : List Directory) (holds : List Held) (rows : List P
 given_pinned directories holds rows pinned past given are =
     ap (λ (hours : List Hour). pinned_in hours 0) are.are ∙ (first_pinned are.now are.rest (omega (arith, are.one.one)) ∙ are.one.pinned_is)
 
-pub present_pinned : (directories : List Directory) (holds : List Held) (rows : List ProblemRow) (pinned : List ℕ) (past : List PastHour) (given : List Hour) (ranks : ℕ) (wanted : Wanted) (own : List OwnPins) (most : ℕ)
-    (chosen : List ℕ) (made : List MadeHour) (hours : List Hour) (weights : List ℕ) → AreGivenHours directories holds rows pinned past given → AreChosenHours ranks given rows wanted own most chosen
+pub present_pinned : (directories : List Directory) (holds : List Held) (rows : List ProblemRow) (pinned : List ℕ) (past : List PastHour)
+    (given : List Hour) (ranks : ℕ) (wanted : Wanted) (own : List OwnPins) (most : ℕ)
+    (chosen : List ℕ) (made : List MadeHour) (hours : List Hour) (weights : List ℕ) → AreGivenHours directories holds rows pinned past given
+    → AreChosenHours ranks given rows wanted own most chosen
     → ArePlannedFor given chosen made hours weights → AreCountable hours weights (length rows) → IsPinnedHeat pinned
 present_pinned directories holds rows pinned past given ranks wanted own most chosen made hours weights given_are chosen_are planned_are countable =
     let some : 0 < length planned_are.seen = omega (arith, chosen_are.some, planned_are.those.size) in
-    let first : pinned_in hours 0 ≡ pinned_in planned_are.seen 0 = ap (λ (those : List Hour). pinned_in those 0) planned_are.are ∙ first_pinned planned_are.seen planned_are.added some in
+    let first : pinned_in hours 0 ≡ pinned_in planned_are.seen 0 = ap (λ (those : List Hour). pinned_in those 0) planned_are.are
+    ∙ first_pinned planned_are.seen planned_are.added some in
     let place : pinned_in planned_are.seen 0 ≡ pinned_in given 0 = planned_are.those.pinned 0 chosen_are.some ∙ ap (pinned_in given) chosen_are.first in
     subst IsPinnedHeat (first ∙ (place ∙ given_pinned directories holds rows pinned past given given_are)) (countable.hours_are.pinned 0 countable.some)

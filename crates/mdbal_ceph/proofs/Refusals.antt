@@ -35,31 +35,36 @@ module _ (asked : PlanAsked) (rows : List ProblemRow) (own : List OwnPins) (give
   hours_memory e is = subst (λ x. IsNoHoursPlan asked rows own given (planned_error x)) (sym is) tt
 
 -- so nothing is decided
-pub refused_decision : (directories : List Directory) (holds : List Held) (rows : List ProblemRow) (spread pinned : List ℕ) (leave : List (List ℕ)) (own : List OwnPins) (past : List PastHour)
-    (given : List Hour) (asked : PlanAsked) (e : NoResult) → AreRowsOf directories holds (length directories) rows → IsHeldHeat directories holds spread pinned → AreOwnPins directories leave (length directories) own
+pub refused_decision : (directories : List Directory) (holds : List Held) (rows : List ProblemRow) (spread pinned : List ℕ)
+    (leave : List (List ℕ)) (own : List OwnPins) (past : List PastHour)
+    (given : List Hour) (asked : PlanAsked) (e : NoResult) → AreRowsOf directories holds (length directories) rows
+    → IsHeldHeat directories holds spread pinned → AreOwnPins directories leave (length directories) own
     → AreGivenHours directories holds rows pinned past given → IsNoHoursPlan asked rows own given e → IsDecisionFault directories spread leave past asked e
 refused_decision directories holds rows spread pinned leave own past given asked why.Memory rows_of pinned_are own_are given_are h = tt
-refused_decision directories holds rows spread pinned leave own past given asked (why.NoPlan (no.Refused error)) rows_of pinned_are own_are given_are h = record {
-  holds = holds;
-  rows = rows;
-  rows_of = rows_of;
-  pinned = pinned;
-  pinned_are = pinned_are;
-  own = own;
-  own_are = own_are;
-  given = given;
-  given_are = given_are;
-  refused = h;
-}
+refused_decision directories holds rows spread pinned leave own past given asked (why.NoPlan (no.Refused error)) rows_of pinned_are own_are
+    given_are h = record {
+      holds = holds;
+      rows = rows;
+      rows_of = rows_of;
+      pinned = pinned;
+      pinned_are = pinned_are;
+      own = own;
+      own_are = own_are;
+      given = given;
+      given_are = given_are;
+      refused = h;
+    }
 refused_decision directories holds rows spread pinned leave own past given asked other rows_of pinned_are own_are given_are h = absurd h
 
 -- and what is planned isn't written
-pub unwritable : (settings : PlanSettings) (outcome : Outcome) (e : ScriptError) → (e ≢ script.Memory → IsUnwritable settings outcome) → IsWritingFault settings outcome (script_error e)
+pub unwritable : (settings : PlanSettings) (outcome : Outcome) (e : ScriptError) → (e ≢ script.Memory → IsUnwritable settings outcome)
+    → IsWritingFault settings outcome (script_error e)
 unwritable settings outcome script.Memory h = tt
 unwritable settings outcome script.Nul h = h (λ is. absurd cc)
 unwritable settings outcome (script.NoDirectory row) h = h (λ is. absurd cc)
 
 -- the same changes can be written
-pub writable_same : (mount mounted name named fsid identified : List ℕ) (directories others : List Directory) (changes same : List PinChange) → mounted ≡ mount → named ≡ name → identified ≡ fsid
+pub writable_same : (mount mounted name named fsid identified : List ℕ) (directories others : List Directory)
+    (changes same : List PinChange) → mounted ≡ mount → named ≡ name → identified ≡ fsid
     → others ≡ directories → same ≡ changes → AreWritable mount name fsid directories changes → AreWritable mounted named identified others same
 writable_same mount mounted name named fsid identified directories others changes same m n f d c w = rw (m, n, f, d, c) w

@@ -11,7 +11,8 @@ use Rattle.ceph_plan.specs.declared.hours.Hour.{Hour}
 use Rattle.ceph_plan.specs.declared.shares.Shares.{Shares}
 use Rattle.mdbal_ceph.proofs.Parents.{parents_by}
 
-module _ (directories : List Directory) (holds : List Held) (rows : List ProblemRow) (ranks : ℕ) (hours : List Hour) (weights : List ℕ) (shares : Shares) (rows_of : AreRowsOf directories holds (length directories) rows)
+module _ (directories : List Directory) (holds : List Held) (rows : List ProblemRow) (ranks : ℕ) (hours : List Hour) (weights : List ℕ)
+    (shares : Shares) (rows_of : AreRowsOf directories holds (length directories) rows)
     (are : AreShares ranks rows hours weights shares) where
   pub shared_size : length shares.rows.items ≡ length directories
   shared_size = are.rows_size ∙ rows_of.size

@@ -37,7 +37,8 @@ explained error (Refused given) kinds s (inl memory) = absurd (s.1 memory)
 explained error (Refused given) kinds s (inr among) = rw s.0 (s.2, s.3, s.1, among)
 
 -- one more option
-pub one_more : (options : List PlanOption) (a before after : App) (at : ℕ) (d : PlanOption) → at < length options → after ≡ with_rule before (option_rule (get_or options at d)) → before ≡ with_options a (take at options)
+pub one_more : (options : List PlanOption) (a before after : App) (at : ℕ) (d : PlanOption) → at < length options
+    → after ≡ with_rule before (option_rule (get_or options at d)) → before ≡ with_options a (take at options)
     → after ≡ with_options a (take (at + 1) options)
 one_more options a before after at d inside made was =
     made

@@ -22,9 +22,11 @@ some_of (Some r) fixed now is same = none-some r (sym same)
 -- what holds counts as a pin that is to stay
 holding-foreign : (directories : List Directory) (i : ℕ) → 0 < i → is_holding directories i ≡ true → foreign_at directories i ≢ None
 holding-foreign directories i later is =
-    rw (ne_eqb i 0 (λ same. let none : ⊥ = omega (arith, later, same) in none)) (some_of (pin_at directories i) (is_fixed_at directories i) (now_at directories i) is)
+    rw (ne_eqb i 0 (λ same. let none : ⊥ = omega (arith, later, same) in none))
+    (some_of (pin_at directories i) (is_fixed_at directories i) (now_at directories i) is)
 
-pub untouched : (directories : List Directory) (leave : List (List ℕ)) (rows : List ProblemRow) (part rank : List ℕ) (own : List OwnPins) (n : ℕ) (rests : Bool) (found : List PinRow) (changes : List PinChange)
+pub untouched : (directories : List Directory) (leave : List (List ℕ)) (rows : List ProblemRow) (part rank : List ℕ) (own : List OwnPins)
+    (n : ℕ) (rests : Bool) (found : List PinRow) (changes : List PinChange)
     → n ≡ length directories → AreOwnPins directories leave (length directories) own → ArePinRows rows part rank own n rests found → AreUntouched found changes
     → (i : ℕ) → 0 < i → i < length directories → is_holding directories i ≡ true → All (λ (change : PinChange). change.row ≢ i) changes
 untouched directories leave rows part rank own n rests found changes size own_is asked free i later inside holds = λ k d l same.

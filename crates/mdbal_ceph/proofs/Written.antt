@@ -20,7 +20,8 @@ pub cut_none : (a : Option (List FileWrite)) (name bytes : List ℕ) (more : Lis
 cut_none a name bytes more = record { whole = []; name = name; bytes = bytes; more = more; all = refl; cut = inl (writes_none a) }
 
 -- one file is not written
-pub cut_one : (a b : Option (List FileWrite)) (name bytes : List ℕ) (e : NoResult) → IsUnwrittenOf name e → IsFrontLeft a b [] name → IsCutShort a b (Whole name bytes ∷ []) e
+pub cut_one : (a b : Option (List FileWrite)) (name bytes : List ℕ) (e : NoResult) → IsUnwrittenOf name e → IsFrontLeft a b [] name
+    → IsCutShort a b (Whole name bytes ∷ []) e
 cut_one a b name bytes e unwritten begun = record { whole = []; name = name; bytes = bytes; more = []; all = refl; cut = cut_of e unwritten } where
   cut_of : (e : NoResult) → IsUnwrittenOf name e → IsCutFor a b [] name e
   cut_of why.Memory h = inr begun
@@ -44,7 +45,8 @@ module _ (a b c : Option (List FileWrite)) (xs : List FileWrite) (one : Writes a
   front_after w = (w.0, subst (Writes a c) (sym (append_assoc xs whole (Front name w.0 ∷ []))) (writes_both a b c xs (whole ++ Front name w.0 ∷ []) one w.1))
 
   for_after : (e : NoResult) → IsCutFor b c whole name e → IsCutFor a c (xs ++ whole) name e
-  for_after why.Memory cut = ⊎_elim (λ (w : Writes b c whole). inl (writes_both a b c xs whole one w)) (λ (w : IsFrontLeft b c whole name). inr (front_after w)) cut
+  for_after why.Memory cut = ⊎_elim (λ (w : Writes b c whole). inl (writes_both a b c xs whole one w))
+      (λ (w : IsFrontLeft b c whole name). inr (front_after w)) cut
   for_after (why.Unwritten told error) cut = (cut.0, front_after cut.1)
   for_after other cut = absurd cut
 
@@ -65,7 +67,8 @@ module _ (a b c d e : Option (List FileWrite)) (one two three four : FileWrite) 
 
   pub cut_third : Writes b c (two ∷ []) → (more : List FileWrite) → IsCutShort c d (three ∷ []) error → IsCutShort a d (one ∷ two ∷ three ∷ more) error
   cut_third second more cut =
-      cut_before a d (one ∷ two ∷ three ∷ []) more error (cut_after a c d (one ∷ two ∷ []) (three ∷ []) error (writes_both a b c (one ∷ []) (two ∷ []) first second) cut)
+      cut_before a d (one ∷ two ∷ three ∷ []) more error
+      (cut_after a c d (one ∷ two ∷ []) (three ∷ []) error (writes_both a b c (one ∷ []) (two ∷ []) first second) cut)
 
   pub cut_fourth : Writes b c (two ∷ []) → Writes c d (three ∷ []) → IsCutShort d e (four ∷ []) error → IsCutShort a e (one ∷ two ∷ three ∷ four ∷ []) error
   cut_fourth second third cut =

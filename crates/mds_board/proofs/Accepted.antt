@@ -1,5 +1,6 @@
 -- What it says of the parts that a change has no cause to be refused.
-use Rattle.std.proofs.Common.{◌≡◌, ◌≢◌, ℕ, zero, suc, ℤ, ◌+◌, ◌<◌, Bool, true, false, ◌==◌, nat_le, List, [], ◌∷◌, length, length-append, Option, Some, None, IsSome, refl, rules, ap, ◌∙◌, inl, inr, arith}
+use Rattle.std.proofs.Common.{◌≡◌, ◌≢◌, ℕ, zero, suc, ℤ, ◌+◌, ◌<◌, Bool, true, false, ◌==◌, nat_le, List, []}
+use Rattle.std.proofs.Common.{◌∷◌, length, length-append, Option, Some, None, IsSome, refl, rules, ap, ◌∙◌, inl, inr, arith}
 use Rattle.std.proofs.lemmas.Bool.Decides.{nat_tests}
 use Rattle.dirtree.specs.declared.tree_error.TreeError.{TreeError}
 use Rattle.dirtree.specs.Tree as tree
@@ -21,7 +22,8 @@ use Rattle.mds_board.specs.declared.board_error.BoardError.TheVariants as error
 use Rattle.mds_board.specs.declared.change.Change.{Change}
 use Rattle.mds_board.specs.declared.change.Change.TheVariants.{Make, Remove, Step, Open, Adopt}
 use Rattle.mds_board.specs.declared.change.Change.TheVariants as change
-use Rattle.mds_board.specs.State.{State, Opened, or_cause, when, of_tree, of_pin, of_step, usable, cause, adopt_cause, balance_refusal, refusal, happens, next, event_limit}
+use Rattle.mds_board.specs.State.{State, Opened, or_cause, when, of_tree, of_pin, of_step, usable}
+use Rattle.mds_board.specs.State.{cause, adopt_cause, balance_refusal, refusal, happens, next, event_limit}
 
 -- it is one of few
 pub has_place : (s : State) (c : Change) → refusal s c ≡ None → s.events < 1048576
@@ -59,7 +61,8 @@ step_none (Some e) h = absurd (cc)
 pub may_make : (s : State) (parent : ℕ) (name : List ℕ) (inodes : ℕ) → refusal s (Make parent name inodes) ≡ None
     → (tree.make_refusal s.directories parent name ≡ None) × (machine.refusal s.cluster (Made parent) ≡ None)
 may_make s parent name inodes h =
-    let both = neither (of_tree (tree.make_refusal s.directories parent name)) (of_step (machine.refusal s.cluster (Made parent))) (no_cause s (Make parent name inodes) h) in
+    let both = neither (of_tree (tree.make_refusal s.directories parent name)) (of_step (machine.refusal s.cluster (Made parent)))
+    (no_cause s (Make parent name inodes) h) in
     (tree_none (tree.make_refusal s.directories parent name) both.0, step_none (machine.refusal s.cluster (Made parent)) both.1)
 
 pub may_remove : (s : State) (d : ℕ) → refusal s (Remove d) ≡ None
@@ -92,7 +95,8 @@ may_open s h = on (rank_count (usable s)) refl (no_cause s Open h)
 pub may_balance : (s : State) → balance_refusal s ≡ None → (s.events < 1048575) × (rank_count (usable s) ≢ 0)
 may_balance s h = on (nat_le 1_048_575 s.events) (rank_count (usable s) == 0) refl refl h
   where
-    on : (b d : Bool) → nat_le 1_048_575 s.events ≡ b → (rank_count (usable s) == 0) ≡ d → or_cause (when b error.HistoryFull) (when d error.BalancerOff) ≡ None → (s.events < 1048575) × (rank_count (usable s) ≢ 0)
+    on : (b d : Bool) → nat_le 1_048_575 s.events ≡ b → (rank_count (usable s) == 0) ≡ d
+        → or_cause (when b error.HistoryFull) (when d error.BalancerOff) ≡ None → (s.events < 1048575) × (rank_count (usable s) ≢ 0)
     on true d is off h = absurd (cc)
     on false true is off h = absurd (cc)
     on false false is off h = (grind (arith, nat_tests), grind (arith, nat_tests))

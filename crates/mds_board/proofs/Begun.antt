@@ -1,5 +1,6 @@
 -- Requests that began are counted.
-use Rattle.std.proofs.Common.{◌≡◌, ◌≢◌, ℕ, zero, suc, ◌+◌, ◌<◌, ◌≤◌, ◌==◌, arith, Bool, true, false, if◌then◌else◌, nat_le, List, [], ◌∷◌, length, length-append, filter, replicate, Option, Some, None, refl, sym, ap, ◌∙◌, subst}
+use Rattle.std.proofs.Common.{◌≡◌, ◌≢◌, ℕ, zero, suc, ◌+◌, ◌<◌, ◌≤◌, ◌==◌, arith, Bool, true, false, if◌then◌else◌, nat_le}
+use Rattle.std.proofs.Common.{List, [], ◌∷◌, length, length-append, filter, replicate, Option, Some, None, refl, sym, ap, ◌∙◌, subst}
 use Rattle.std.proofs.lemmas.Bool.Decides.{nat_tests}
 use Rattle.std.proofs.lemmas.List.{length-replicate, length-set}
 use Rattle.heat_ledger.specs.Rows.{at, raised}
@@ -44,7 +45,8 @@ made_below : (w : Cluster) (p : ℕ) → machine.refusal w (Made p) ≡ None →
 unfolding machine.refusal machine.causes
 made_below w p h =
     on (nat_le w.limit (length w.parents)) refl
-    (third (when (nat_le history_limit w.events) HistoryFull) (no_dir w p) (when (nat_le w.limit (length w.parents)) TreeFull) (held_at w p (authority w p)) (authority_stopped w (authority w p)) h)
+    (third (when (nat_le history_limit w.events) HistoryFull) (no_dir w p) (when (nat_le w.limit (length w.parents)) TreeFull)
+    (held_at w p (authority w p)) (authority_stopped w (authority w p)) h)
   where
     on : (b : Bool) → nat_le w.limit (length w.parents) ≡ b → when b TreeFull ≡ None → length w.parents < w.limit
     on true is h = absurd (cc)
@@ -169,7 +171,8 @@ begun_next limit s (Adopt plan) h ok d = none_more (at s.begun d)
 begun_more : (d : ℕ) (e : Entry) (es : List Entry) → begin_count d (e ∷ es) ≡ one (begins d e.change) + begin_count d es
 begun_more d e es = on (begins d e.change)
   where
-    on : (b : Bool) → length (if b then e ∷ filter (λ (f : Entry). begins d f.change) es else filter (λ (f : Entry). begins d f.change) es) ≡ one b + begin_count d es
+    on : (b : Bool) → length (if b then e ∷ filter (λ (f : Entry). begins d f.change) es else filter (λ (f : Entry). begins d f.change) es)
+        ≡ one b + begin_count d es
     on true = omega arith
     on false = omega arith
 

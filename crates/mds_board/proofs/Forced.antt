@@ -51,7 +51,8 @@ shown_after all s (e ∷ es) t h at replay =
 
 pub shown : (s : State) (history : List Entry) → IsHistory s history → IsShown history s.in_force
 shown s history h =
-    shown_after history (start s.directories.limit s.pins.active) history s tt (λ k. let first : 0 + k ≡ k = omega arith in ap (slice_get history) first) h.replay
+    shown_after history (start s.directories.limit s.pins.active) history s tt
+    (λ k. let first : 0 + k ≡ k = omega arith in ap (slice_get history) first) h.replay
 
 -- the plan that is read is best
 pub read_is_best : (history : List Entry) (force : Option Force) (plan : Plan) → IsShown history force → plan_of history force ≡ Some plan

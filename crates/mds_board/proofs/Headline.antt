@@ -1,5 +1,6 @@
 -- What a replay says of plans and of the cluster.
-use Rattle.std.proofs.Common.{◌≡◌, ℕ, zero, suc, Bool, true, false, List, [], ◌∷◌, ◌++◌, Option, Some, None, All, refl, sym, ap, ◌∙◌, append_assoc, append-nil, arith, length, subst}
+use Rattle.std.proofs.Common.{◌≡◌, ℕ, zero, suc, Bool, true, false, List, [], ◌∷◌, ◌++◌, Option}
+use Rattle.std.proofs.Common.{Some, None, All, refl, sym, ap, ◌∙◌, append_assoc, append-nil, arith, length, subst}
 use Rattle.std.specs.Prelude.{◌<◌}
 use Rattle.std.proofs.lemmas.Bool.{false≢true}
 use Rattle.std.proofs.lemmas.List.{length-map}
@@ -26,7 +27,8 @@ use Rattle.mds_board.specs.declared.change.Answer.TheVariants as answer
 use Rattle.mds_board.specs.declared.change.Change.{Change}
 use Rattle.mds_board.specs.declared.change.Change.TheVariants.{Make, Remove, Mask, Deposit, Tick, Step, Open, Adopt}
 use Rattle.mds_board.specs.declared.change.Change.TheVariants as change
-use Rattle.mds_board.specs.State.{State, Opened, start, refusal, happens, next, first_of, marked, marked_if, problem_of, after_event, usable, authorities, adopt_cause, dirs_of, unless_changed}
+use Rattle.mds_board.specs.State.{State, Opened, start, refusal, happens, next, first_of, marked}
+use Rattle.mds_board.specs.State.{marked_if, problem_of, after_event, usable, authorities, adopt_cause, dirs_of, unless_changed}
 use Rattle.mds_board.specs.Steps.{IsBestForOpen}
 use Rattle.mds_board.proofs.Accepted.{may_make, may_remove, may_step, no_cause}
 use Rattle.mds_board.specs.declared.entry.Entry.{Entry}
@@ -58,7 +60,8 @@ one_more between e h all = All-append (λ (f : Entry). leaves_problem f.change �
     alone zero d near = h
     alone (suc k) d near = absurd (omega (arith, near))
 
-longer : (before earlier between : List Entry) (e opening : Entry) → before ≡ earlier ++ opening ∷ between → before ++ e ∷ [] ≡ earlier ++ opening ∷ (between ++ e ∷ [])
+longer : (before earlier between : List Entry) (e opening : Entry) → before ≡ earlier ++ opening ∷ between
+    → before ++ e ∷ [] ≡ earlier ++ opening ∷ (between ++ e ∷ [])
 longer before earlier between e opening is = ap (λ (es : List Entry). es ++ e ∷ []) is ∙ append_assoc earlier (opening ∷ between) (e ∷ [])
 
 still_opened : (before : List Entry) (o : Option Opened) (e : Entry) → leaves_problem e.change ≡ true → IsOpenedIn before o → IsOpenedIn (before ++ e ∷ []) o
@@ -111,7 +114,8 @@ opened_next before s Open reply is h = (
 )
 opened_next before s (Adopt plan) reply is h = tt
 
-opened_after : (before : List Entry) (s : State) (es : List Entry) (t : State) → IsReplay s es t → IsOpenedIn before s.opened → IsOpenedIn (before ++ es) t.opened
+opened_after : (before : List Entry) (s : State) (es : List Entry) (t : State) → IsReplay s es t → IsOpenedIn before s.opened
+    → IsOpenedIn (before ++ es) t.opened
 opened_after before s [] t r h = rw (r, append-nil before) h
 opened_after before s (e ∷ es) t r h =
     subst (λ (all : List Entry). IsOpenedIn all t.opened) (append_assoc before (e ∷ []) es)
@@ -132,7 +136,8 @@ best_open before (Some o) plan h may best = (h.0, h.1, o.problem, h.2, h.3 (same
 
 pub adopts_best : (limit active : ℕ) (history : List Entry) (t : State) → IsReplay (start limit active) history t → AdoptsBest history
 adopts_best limit active history t r before more plan reply is =
-    let parts = replay_split (start limit active) before (record { change = Adopt plan; reply = reply }) more t (subst (λ es. IsReplay (start limit active) es t) is r) in
+    let parts = replay_split (start limit active) before (record { change = Adopt plan; reply = reply }) more t
+    (subst (λ es. IsReplay (start limit active) es t) is r) in
     let s = after (start limit active) before in
     best_open before s.opened plan (opened_after [] (start limit active) before s parts.0 tt) (no_cause s (Adopt plan) parts.1.0) parts.1.1
 
@@ -184,7 +189,8 @@ cheapest s plan tree best label same =
     let in_dirs = λ (rank : ℕ → ℕ). moves_agree s.directories.entries s.pins.own s.heats.heats (authorities s) tree (usable s) label rank in (
       sym (in_dirs (plan_rank plan)) ∙ (cost (plan_rank plan) ∙ best.moved_is),
       λ rank is.
-          (let placed : IsPlacing rows (usable s) by_dirs rank = placed_rows s.directories.entries s.pins.own s.heats.heats (authorities s) tree (usable s) label rank is in
+          (let placed : IsPlacing rows (usable s) by_dirs rank =
+          placed_rows s.directories.entries s.pins.own s.heats.heats (authorities s) tree (usable s) label rank is in
           let as_planned : IsPlacing rows (usable s) (plan_label plan) rank = record {
             usable = λ i l. subst (λ p. has_rank (usable s) (rank p) ≡ true) (alike i l) (placed.usable i l);
             distinct = λ i j l m one.
@@ -198,9 +204,11 @@ unfolding happens
 opened_reply s = refl
 
 -- Each problem is that of the directories at its opening.
-pub opens_directories : (limit active : ℕ) (history : List Entry) (t : State) → IsReplay (start limit active) history t → OpensDirectories (start limit active) history
+pub opens_directories : (limit active : ℕ) (history : List Entry) (t : State) → IsReplay (start limit active) history t
+    → OpensDirectories (start limit active) history
 opens_directories limit active history t r earlier more reply is =
-    let parts = replay_split (start limit active) earlier (record { change = Open; reply = reply }) more t (subst (λ es. IsReplay (start limit active) es t) is r) in
+    let parts = replay_split (start limit active) earlier (record { change = Open; reply = reply }) more t
+    (subst (λ es. IsReplay (start limit active) es t) is r) in
     let s = after (start limit active) earlier in
     let tree : IsTree s.directories.entries = tree_after (start limit active) earlier s parts.0 first_tree in (
       parts.1.2 ∙ opened_reply s,

@@ -12,7 +12,8 @@ use Rattle.mds_board.specs.History.{World}
 use Rattle.mds_board.specs.Promises.{cluster_event, cluster_events}
 
 -- one more command
-pub carried_next : (also : ProblemData → Plan → Type 0) (old between new : World) (cs : List BoardCommand) (answers : List (Result Answer BoardError)) (c : BoardCommand) (a : Result Answer BoardError)
+pub carried_next : (also : ProblemData → Plan → Type 0) (old between new : World) (cs : List BoardCommand)
+    (answers : List (Result Answer BoardError)) (c : BoardCommand) (a : Result Answer BoardError)
     → AreCarriedOut also old cs answers between → IsCarriedOut also between c a new → AreCarriedOut also old (cs ++ c ∷ []) (answers ++ a ∷ []) new
 carried_next also old between new [] [] c a same h = (new, subst (λ (w : World). IsCarriedOut also w c a new) same h, refl)
 carried_next also old between new (d ∷ ds) (b ∷ bs) c a h last = (h.0, h.1, carried_next also h.0 between new ds bs c a h.2 last)
@@ -22,4 +23,5 @@ carried_next also old between new (d ∷ ds) [] c a h last = absurd h
 -- one more entry
 pub events_next : (es : List Entry) (e : Entry) → cluster_events (es ++ e ∷ []) ≡ cluster_events es ++ cluster_event e.change
 events_next [] e = append-nil (cluster_event e.change)
-events_next (f ∷ fs) e = ap (λ (rest : List Event). cluster_event f.change ++ rest) (events_next fs e) ∙ sym (append_assoc (cluster_event f.change) (cluster_events fs) (cluster_event e.change))
+events_next (f ∷ fs) e = ap (λ (rest : List Event). cluster_event f.change ++ rest) (events_next fs e)
+    ∙ sym (append_assoc (cluster_event f.change) (cluster_events fs) (cluster_event e.change))

@@ -1,5 +1,6 @@
 -- The map and the tree follow the cluster's events.
-use Rattle.std.proofs.Common.{◌≡◌, ℕ, zero, suc, ◌+◌, ◌<◌, arith, Bool, true, false, not, ◌||◌, ◌==◌, if◌then◌else◌, nat_le, List, [], ◌∷◌, ◌++◌, length, Option, Some, None, refl, sym, ap, ◌∙◌, append-nil, slice_get, slice_index_or}
+use Rattle.std.proofs.Common.{◌≡◌, ℕ, zero, suc, ◌+◌, ◌<◌, arith, Bool, true, false, not, ◌||◌, ◌==◌, if◌then◌else◌, nat_le}
+use Rattle.std.proofs.Common.{List, [], ◌∷◌, ◌++◌, length, Option, Some, None, refl, sym, ap, ◌∙◌, append-nil, slice_get, slice_index_or}
 use Rattle.std.proofs.lemmas.Bool.{ne_eqb}
 use Rattle.std.proofs.lemmas.Bool.Decides.{nat_tests}
 use Rattle.authority_map.proofs.CellLemmas.{rank_after-none, rank_after-snoc}
@@ -11,10 +12,12 @@ use Rattle.export_protocol.specs.declared.event.Event.TheVariants.{Made, Gone, B
 use Rattle.export_protocol.specs.declared.journal.JournalEntry.{JournalEntry}
 use Rattle.export_protocol.specs.declared.step_error.StepError.{StepError}
 use Rattle.heat_ledger.specs.Rows.{raised}
-use Rattle.export_protocol.specs.Entries.{is_log, logs_export, unless_refused, Entry, accepted_entry, delivered_entry, entered_by, entry, named_after, named_by, IsRecorded, parents_after}
+use Rattle.export_protocol.specs.Entries.{is_log, logs_export, unless_refused, Entry, accepted_entry, delivered_entry}
+use Rattle.export_protocol.specs.Entries.{entered_by, entry, named_after, named_by, IsRecorded, parents_after}
 use Rattle.export_protocol.proofs.Entries.{delivered_named}
 use Rattle.export_protocol.specs.Step as machine
-use Rattle.export_protocol.specs.Step.{authority_stopped, history_limit, when, is_root, no_dir, any_at, is_child, no_export, late, is_logged, busy, not_yet, running_on, no_rank, rank_stopped, not_served}
+use Rattle.export_protocol.specs.Step.{authority_stopped, history_limit, when, is_root, no_dir, any_at, is_child, no_export}
+use Rattle.export_protocol.specs.Step.{late, is_logged, busy, not_yet, running_on, no_rank, rank_stopped, not_served}
 use Rattle.export_protocol.specs.declared.step_error.StepError.TheVariants.{HistoryFull, IsRoot, NotEmpty, NoDir, NoExport}
 use Rattle.mds_board.specs.declared.change.Change.TheVariants.{Step}
 use Rattle.mds_board.specs.declared.change.Answer.TheVariants as answer
@@ -146,18 +149,30 @@ unlogged w r d = on (machine.refusal w (Begin r d))
     on None = refl
     on (Some e) = refl
 
-pub after_begin : (s : State) (r d : ℕ) → next s (Step (Begin r d)) ≡ record s { cluster = after_event s.cluster (Begin r d); begun = raised s.begun d; events = s.events + 1 }
+pub after_begin : (s : State) (r d : ℕ) → next s (Step (Begin r d))
+    ≡ record s { cluster = after_event s.cluster (Begin r d); begun = raised s.begun d; events = s.events + 1 }
 unfolding happens
 after_begin s r d = rw (append-nil s.map, unlogged s.cluster r d) refl
 
 pub begin_present : (old new : Present) (r d : ℕ)
-    → new ≡ record old { state = record old.state { cluster = after_event old.state.cluster (Begin r d); begun = raised old.state.begun d; events = old.state.events + 1 } }
+    → new ≡ record old {
+      state = record old.state {
+        cluster = after_event old.state.cluster (Begin r d);
+        begun = raised old.state.begun d;
+        events = old.state.events + 1;
+      };
+    }
     → new ≡ stepped_to old (Step (Begin r d))
 begin_present old new r d h = h ∙ ap (λ (s : State). record old { state = s }) (sym (after_begin old.state r d))
 
 -- any other event that neither makes nor removes a directory begins no request
 pub after_step : (s : State) (e : Event) → is_inner e ≡ true
-    → next s (Step e) ≡ record s { cluster = after_event s.cluster e; map = s.map ++ map_change s.cluster e; opened = marked_if (logs_export s.cluster e) s.opened s.events; events = s.events + 1 }
+    → next s (Step e) ≡ record s {
+      cluster = after_event s.cluster e;
+      map = s.map ++ map_change s.cluster e;
+      opened = marked_if (logs_export s.cluster e) s.opened s.events;
+      events = s.events + 1;
+    }
 unfolding happens
 after_step s (Made p) h = absurd (cc)
 after_step s (Gone d) h = absurd (cc)
@@ -173,7 +188,14 @@ after_step s (Restart r) h = refl
 after_step s (Ask x) h = refl
 
 pub step_present : (old new : Present) (e : Event) → is_inner e ≡ true
-    → new ≡ record old { state = record old.state { cluster = after_event old.state.cluster e; map = old.state.map ++ map_change old.state.cluster e; opened = marked_if (logs_export old.state.cluster e) old.state.opened old.state.events; events = old.state.events + 1 } }
+    → new ≡ record old {
+      state = record old.state {
+        cluster = after_event old.state.cluster e;
+        map = old.state.map ++ map_change old.state.cluster e;
+        opened = marked_if (logs_export old.state.cluster e) old.state.opened old.state.events;
+        events = old.state.events + 1;
+      };
+    }
     → new ≡ stepped_to old (Step e)
 step_present old new e inner h = h ∙ ap (λ (s : State). record old { state = s }) (sym (after_step old.state e inner))
 
@@ -200,7 +222,8 @@ pub notifies : (w : World) (x : ℕ) → machine.refusal w (Notify x) ≡ None �
 unfolding machine.refusal machine.causes
 notifies w x h =
     on (nat_le (length w.orders) x) refl
-    (second (when (nat_le history_limit w.events) HistoryFull) (no_export w x) (rank_stopped w (from_of w x) ∷ late (is_logged (exporter_of w x)) (exporter_of w x) ∷ []) h)
+    (second (when (nat_le history_limit w.events) HistoryFull) (no_export w x)
+    (rank_stopped w (from_of w x) ∷ late (is_logged (exporter_of w x)) (exporter_of w x) ∷ []) h)
   where
     second : (a b : Option StepError) (cs : List (Option StepError)) → machine.first (a ∷ b ∷ cs) ≡ None → b ≡ None
     second None None cs h = refl

@@ -10,7 +10,8 @@ use Rattle.mds_board.specs.State.{State, Opened, refusal}
 use Rattle.mds_board.specs.Steps.{IsAllowed, IsBelied, IsBestForOpen, IsDue, IsNotCertified}
 use Rattle.mds_board.specs.History.{World, IsAnswer}
 
-pub again : (old between new : World) (c : Change) (answer : Result Answer BoardError) → IsAnswer old c (Err Memory) between → IsAnswer between c answer new → IsAnswer old c answer new
+pub again : (old between new : World) (c : Change) (answer : Result Answer BoardError) → IsAnswer old c (Err Memory) between
+    → IsAnswer between c answer new → IsAnswer old c answer new
 again old between new c answer refused h = subst (λ (w : World). IsAnswer w c answer new) refused.1 h
 
 pub alike : (old one other : World) (c : Change) (a b : Answer) → IsAnswer old c (Ok a) one → IsAnswer old c (Ok b) other → (a ≡ b) × (one ≡ other)
@@ -37,5 +38,6 @@ due s c error none allowed (inl some) = let never : None ≡ Some error = sym no
 due s c error none allowed (inr (is, inl memory)) = memory
 due s c error none allowed (inr (is, inr belied)) = absurd (believed s c allowed belied.1)
 
-pub memory : (old one other : World) (c : Change) (a : Answer) (error : BoardError) → IsAnswer old c (Ok a) one → IsAnswer old c (Err error) other → error ≡ Memory
+pub memory : (old one other : World) (c : Change) (a : Answer) (error : BoardError) → IsAnswer old c (Ok a) one
+    → IsAnswer old c (Err error) other → error ≡ Memory
 memory old one other c a error h k = due old.state c error h.0 h.1 k.0

@@ -45,7 +45,8 @@ goes_on s history c h allowed best =
     let room = has_place s c allowed in
     let e = length-append history (entry_of s c ∷ []) in
     let n = h.numbered in
-    let from : IsReplay (start s.directories.limit s.pins.active) (history ++ entry_of s c ∷ []) (next s c) = replay_more (start s.directories.limit s.pins.active) history s c h.replay allowed best in
+    let from : IsReplay (start s.directories.limit s.pins.active) (history ++ entry_of s c ∷ []) (next s c) =
+    replay_more (start s.directories.limit s.pins.active) history s c h.replay allowed best in
     record {
       some_dir = subst (λ l. 1 ≤ l) (sym (limits_stay s c).0) h.some_dir;
       some_rank = subst (λ a. 1 ≤ a) (sym (limits_stay s c).1) h.some_rank;
@@ -66,13 +67,15 @@ keeps old new history kept c reply h step is =
     subst (λ (p : Present). IsHistory p.state kept) (sym step.3) held
 
 -- the entries of a balance: a problem is opened, and its plan adopted with its orders
-balance_entries : (also : ProblemData → Plan → Type 0) (old new : Present) (history kept : List Entry) (problem : ProblemData) (plan : Plan) (orders : List Order) → IsBalance also old problem plan orders new
+balance_entries : (also : ProblemData → Plan → Type 0) (old new : Present) (history kept : List Entry) (problem : ProblemData) (plan : Plan)
+    (orders : List Order) → IsBalance also old problem plan orders new
     → kept ≡ history ++ record { change = Open; reply = answer.Problem problem } ∷ record { change = Adopt plan; reply = answer.Orders orders } ∷ []
     → kept ≡ (history ++ entry_of old.state Open ∷ []) ++ entry_of (next old.state Open) (Adopt plan) ∷ []
 unfolding happens
 balance_entries also old new history kept problem plan orders b is =
     is
-    ∙ (ap (λ (q : ProblemData). history ++ record { change = Open; reply = answer.Problem q } ∷ record { change = Adopt plan; reply = answer.Orders orders } ∷ []) b.1
+    ∙ (ap (λ (q : ProblemData). history ++ record { change = Open; reply = answer.Problem q } ∷
+    record { change = Adopt plan; reply = answer.Orders orders } ∷ []) b.1
     ∙ (ap (λ (os : List Order). history ++ entry_of old.state Open ∷ record { change = Adopt plan; reply = answer.Orders os } ∷ []) b.4
     ∙ sym (append_assoc history (entry_of old.state Open ∷ []) (entry_of (next old.state Open) (Adopt plan) ∷ []))))
 
@@ -81,7 +84,8 @@ unfolding happens
 allowed s plan h = h
 
 -- the same for a problem that is opened and its plan that is adopted
-pub balance_keeps : (also : ProblemData → Plan → Type 0) (old new : Present) (history kept : List Entry) (problem : ProblemData) (plan : Plan) (orders : List Order) → IsHistory old.state history
+pub balance_keeps : (also : ProblemData → Plan → Type 0) (old new : Present) (history kept : List Entry) (problem : ProblemData)
+    (plan : Plan) (orders : List Order) → IsHistory old.state history
     → IsBalance also old problem plan orders new
     → kept ≡ history ++ record { change = Open; reply = answer.Problem problem } ∷ record { change = Adopt plan; reply = answer.Orders orders } ∷ []
     → IsHistory new.state kept
@@ -93,7 +97,8 @@ balance_keeps also old new history kept problem plan orders h b is =
     subst (λ es. IsHistory (next (next s Open) (Adopt plan)) es) (sym (balance_entries also old new history kept problem plan orders b is)) second in
     subst (λ (p : Present). IsHistory p.state kept) (sym b.5) all
 
-pub balance_recorded : (also : ProblemData → Plan → Type 0) (old new : Present) (history kept : List Entry) (problem : ProblemData) (plan : Plan) (orders : List Order) → IsBalance also old problem plan orders new
+pub balance_recorded : (also : ProblemData → Plan → Type 0) (old new : Present) (history kept : List Entry) (problem : ProblemData)
+    (plan : Plan) (orders : List Order) → IsBalance also old problem plan orders new
     → kept ≡ history ++ record { change = Open; reply = answer.Problem problem } ∷ record { change = Adopt plan; reply = answer.Orders orders } ∷ []
     → world_of new kept ≡ recorded (recorded (world_of old history) Open) (Adopt plan)
 balance_recorded also old new history kept problem plan orders b is =

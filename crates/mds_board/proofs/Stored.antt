@@ -39,7 +39,8 @@ unfolding nowhere
 other_more others slots e n last h =
     map-append (entry_in (others ++ e ∷ [])) slots (slot.Other n ∷ [])
     ∙ (ap (λ (es : List Entry). es ++ get_or (others ++ e ∷ []) n nowhere ∷ []) (same_entries others e slots h)
-    ∙ ap (λ (found : Entry). entries_in others slots ++ found ∷ []) (ap (λ m. get_or (others ++ e ∷ []) m nowhere) last ∙ get_or-append_seam others e [] nowhere))
+    ∙ ap (λ (found : Entry). entries_in others slots ++ found ∷ [])
+    (ap (λ m. get_or (others ++ e ∷ []) m nowhere) last ∙ get_or-append_seam others e [] nowhere))
 
 pub other_kept : (others : List Entry) (slots : List Slot) (e : Entry) (n : ℕ) → n ≡ length others → AreSlots others slots
     → AreSlots (others ++ e ∷ []) (slots ++ slot.Other n ∷ [])

@@ -1,5 +1,6 @@
 -- Reading a mask.
-use Rattle.std.proofs.Common.{◌≡◌, ℕ, suc, ◌^◌, ◌<◌, ◌≤◌, ◌==◌, true, false, nat_lt, if◌then◌else◌, List, [], ◌∷◌, length, refl, ap, arith, Result, Ok, Err, Some, None, inl, inr}
+use Rattle.std.proofs.Common.{◌≡◌, ℕ, suc, ◌^◌, ◌<◌, ◌≤◌, ◌==◌, true, false, nat_lt, if◌then◌else◌, List, []}
+use Rattle.std.proofs.Common.{◌∷◌, length, refl, ap, arith, Result, Ok, Err, Some, None, inl, inr}
 use Rattle.std.specs.Prelude.{slice_index}
 use Rattle.std.specs.List.{list_all}
 use Rattle.std.specs.Char.{digit_value}
@@ -22,7 +23,8 @@ tested_digits [] is = tt
 tested_digits (c ∷ cs) is = (ltb-true (digit_value c) 16 (and_parts _ _ is).0, tested_digits cs (and_parts _ _ is).1)
 
 hex_tested : (digits : List ℕ) → IsNumeral 16 digits → length digits ≤ 16 → is_hex digits ≡ true
-hex_tested digits numeral few = and_from _ _ (lt-ltb 0 (length digits) numeral.0) (and_from _ _ (le-leb (length digits) 16 few) (digits_tested digits numeral.1))
+hex_tested digits numeral few = and_from _ _ (lt-ltb 0 (length digits) numeral.0)
+    (and_from _ _ (le-leb (length digits) 16 few) (digits_tested digits numeral.1))
 
 tested_hex : (digits : List ℕ) → is_hex digits ≡ true → IsNumeral 16 digits
 tested_hex digits is =

@@ -1,5 +1,6 @@
 -- The states of orders while a board goes on.
-use Rattle.std.proofs.Common.{◌≡◌, ◌≤◌, ◌<◌, ◌+◌, ℕ, zero, suc, Bool, true, false, cond, take, List, [], ◌∷◌, ◌++◌, length, Some, slice_get, get_or, refl, sym, ap, ◌∙◌, subst, arith, append-nil, append_assoc}
+use Rattle.std.proofs.Common.{◌≡◌, ◌≤◌, ◌<◌, ◌+◌, ℕ, zero, suc, Bool, true, false, cond, take, List, []}
+use Rattle.std.proofs.Common.{◌∷◌, ◌++◌, length, Some, slice_get, get_or, refl, sym, ap, ◌∙◌, subst, arith, append-nil, append_assoc}
 use mathlib.Core.List.{IsPrefix}
 use Rattle.mds_board.specs.declared.entry.Entry.{Entry}
 use Rattle.std.proofs.Math.ListN.{set}
@@ -42,8 +43,15 @@ each_set R S f (a ∷ xs) [] k b d l g h = absurd h
 pub follows : (xs ys zs : List Entry) → IsPrefix xs ys → IsPrefix ys zs → IsPrefix xs zs
 follows xs ys zs p q = (p.0 ++ q.0, sym (append_assoc xs p.0 q.0) ∙ (ap (λ (l : List Entry). l ++ q.0) p.1 ∙ q.1))
 
-pub met_later : (first : World) (log longer : List Entry) (change : Change) (e : BoardError) → IsPrefix log longer → IsMet first log change e → IsMet first longer change e
-met_later first log longer change e more h = record { board = h.board; stops = h.stops; went = h.went; due = h.due; kept = follows h.board.history log longer h.kept more }
+pub met_later : (first : World) (log longer : List Entry) (change : Change) (e : BoardError) → IsPrefix log longer
+    → IsMet first log change e → IsMet first longer change e
+met_later first log longer change e more h = record {
+  board = h.board;
+  stops = h.stops;
+  went = h.went;
+  due = h.due;
+  kept = follows h.board.history log longer h.kept more;
+}
 
 -- The history goes on, and so do the exports.
 pub record Grows (now new : World) : Type 0 where
@@ -55,13 +63,15 @@ pub went_grows : (r x : Bool) (stops : List ℕ) (now new : World) → WentOnWit
 went_grows r x stops now new h =
     let more = orders_stay r x stops now new h in record { history = (added now new, sym (all_parts r x stops now new h)); more = more.0; orders = more.1 }
 
-asked_grows : (first now new : World) → Grows now new → (order : Order) (standing : Standing) → IsAsked first now order standing → IsAsked first new order standing
+asked_grows : (first now new : World) → Grows now new → (order : Order) (standing : Standing) → IsAsked first now order standing
+    → IsAsked first new order standing
 asked_grows first now new h order (Waiting waiting) is = is
 asked_grows first now new h order (Started x) is =
     (is.0, ap (λ (os : List Order). slice_get os x) h.orders ∙ get_first now.state.cluster.orders h.more x order is.1)
 asked_grows first now new h order (Refused error) is = met_later first now.history new.history _ error h.history is
 
-pub all_grow : (first now new : World) (orders : List Order) (standings : List Standing) → Grows now new → AreAsked first now orders standings → AreAsked first new orders standings
+pub all_grow : (first now new : World) (orders : List Order) (standings : List Standing) → Grows now new
+    → AreAsked first now orders standings → AreAsked first new orders standings
 all_grow first now new orders standings h all = each_maps (IsAsked first now) (IsAsked first new) (asked_grows first now new h) orders standings all
 
 pub each_long : {A B : Type 0} (R : A → B → Type 0) (xs : List A) (ys : List B) → AreEach R xs ys → length xs ≡ length ys
@@ -70,7 +80,8 @@ each_long R (a ∷ xs) (b ∷ ys) h = ap suc (each_long R xs ys h.1)
 each_long R [] (b ∷ ys) h = absurd h
 each_long R (a ∷ xs) [] h = absurd h
 
-pub each_snoc : {A B : Type 0} (R : A → B → Type 0) (xs : List A) (ys : List B) (a : A) (b : B) → R a b → AreEach R xs ys → AreEach R (xs ++ a ∷ []) (ys ++ b ∷ [])
+pub each_snoc : {A B : Type 0} (R : A → B → Type 0) (xs : List A) (ys : List B) (a : A) (b : B) → R a b → AreEach R xs ys
+    → AreEach R (xs ++ a ∷ []) (ys ++ b ∷ [])
 each_snoc R [] [] a b r h = (r, tt)
 each_snoc R (x ∷ xs) (y ∷ ys) a b r h = (h.0, each_snoc R xs ys a b r h.1)
 each_snoc R [] (y ∷ ys) a b r h = absurd h
@@ -99,7 +110,8 @@ newly_refused stops first now order waiting e h is due = record {
 }
 
 -- an order that has just been started
-pub newly_started : (stops : List ℕ) (first now new : World) (order waiting : Order) (x : ℕ) → WentOnWithStops true true stops first now → waiting ≡ order → x ≡ length now.state.cluster.orders
+pub newly_started : (stops : List ℕ) (first now new : World) (order waiting : Order) (x : ℕ) → WentOnWithStops true true stops first now
+    → waiting ≡ order → x ≡ length now.state.cluster.orders
     → new.state.cluster.orders ≡ now.state.cluster.orders ++ waiting ∷ [] → IsStarted first new order x
 newly_started stops first now new order waiting x h is e more = (
   subst (λ n. length first.state.cluster.orders ≤ n) (sym e) (no_fewer true true stops first now h),
@@ -120,7 +132,8 @@ begun_later first now [] (s ∷ standings) k x d near h is = absurd h
 begun_later first now (o ∷ orders) [] k x d near h is = absurd h
 
 -- an order that is in another state
-pub one_changed : (first now new : World) (orders : List Order) (standings : List Standing) (k : ℕ) (s d : Standing) → WentOnBy false true now new → k < length standings
+pub one_changed : (first now new : World) (orders : List Order) (standings : List Standing) (k : ℕ) (s d : Standing)
+    → WentOnBy false true now new → k < length standings
     → ((order : Order) → IsAsked first now order (get_or standings k d) → IsAsked first new order s) → AreAsked first now orders standings
     → AreAsked first new orders (set standings k s)
 one_changed first now new orders standings k s d h near f all =

@@ -1,5 +1,6 @@
 -- A request that begins.
-use Rattle.std.proofs.Common.{◌≡◌, ◌≤◌, ℕ, ◌+◌, List, [], ◌∷◌, ◌++◌, length, length-append, Option, Some, true, Result, Ok, Err, refl, sym, ap, ◌∙◌, arith, append-nil}
+use Rattle.std.proofs.Common.{◌≡◌, ◌≤◌, ℕ, ◌+◌, List, [], ◌∷◌, ◌++◌, length, length-append, Option}
+use Rattle.std.proofs.Common.{Some, true, Result, Ok, Err, refl, sym, ap, ◌∙◌, arith, append-nil}
 use Rattle.export_protocol.specs.declared.event.Request.{Request}
 use Rattle.std.specs.Prelude.{IfOk, OnErr}
 use Rattle.export_protocol.specs.Step as machine
@@ -26,7 +27,8 @@ reply_is s r d = refl
 pub ticket_is : (s : State) (r d t : ℕ) → answer.Reply (Ticket t) ≡ (state.happens s (Step (Begin r d))).reply → t ≡ length s.cluster.tickets
 ticket_is s r d t a = let same : answer.Reply (Ticket t) ≡ answer.Reply (Ticket (length s.cluster.tickets)) = a ∙ begin_reply s r d in cc
 
-given_of : (s : State) (r d t : ℕ) → answer.Reply (Ticket t) ≡ (state.happens s (Step (Begin r d))).reply → (machine.happens s.cluster (Begin r d)).reply ≡ Ticket t
+given_of : (s : State) (r d t : ℕ) → answer.Reply (Ticket t) ≡ (state.happens s (Step (Begin r d))).reply
+    → (machine.happens s.cluster (Begin r d)).reply ≡ Ticket t
 given_of s r d t a = reply_is s r d ∙ ap (λ (n : ℕ). Ticket n) (sym (ticket_is s r d t a))
 
 -- the history ends with the request's entry
@@ -34,7 +36,8 @@ entered : (old new : World) (r d t : ℕ) → IsAnswer old (Step (Begin r d)) (O
 entered old new r d t a =
     ap (λ (w : World). w.history) a.3 ∙ ap (λ (x : Answer). old.history ++ record { change = Step (Begin r d); reply = x } ∷ []) (sym a.2)
 
-pub begun_now : (stops : List ℕ) (before old new : World) (rank dir : ℕ) (r : Result ℕ BoardError) → WentOnWithStops true true stops before old → IsAnswer old (Step (Begin rank dir)) (spelled (λ t. answer.Reply (Ticket t)) r) new
+pub begun_now : (stops : List ℕ) (before old new : World) (rank dir : ℕ) (r : Result ℕ BoardError)
+    → WentOnWithStops true true stops before old → IsAnswer old (Step (Begin rank dir)) (spelled (λ t. answer.Reply (Ticket t)) r) new
     → IfOk r (λ t. IsBegun before new.history rank dir t)
 begun_now stops before old new rank dir (Err e) went a = tt
 begun_now stops before old new rank dir (Ok t) went a = record {
@@ -60,5 +63,6 @@ given_below old new rank dir (Err e) given after below a next same = rw same bel
 given_below old new rank dir (Ok t) given after below a next same =
     let is = ticket_is old.state rank dir t a.2 in
     let one = ap (λ (w : World). length w.state.cluster.tickets) a.3 in
-    let long = ap (λ (ts : List (Option Request)). length ts) (begin_tickets old.state rank dir) ∙ length-append old.state.cluster.tickets (Some (record { rank = rank; dir = dir }) ∷ []) in
+    let long = ap (λ (ts : List (Option Request)). length ts) (begin_tickets old.state rank dir)
+    ∙ length-append old.state.cluster.tickets (Some (record { rank = rank; dir = dir }) ∷ []) in
     omega (arith, is, one, long, next)

@@ -43,4 +43,5 @@ pub kind_wider : (r x wide_r wide_x : Bool) (stops wide : List ℕ) (n more : �
     → ((rank : ℕ) → Contains stops rank → Contains wide rank) → (IsOfPhase n c → IsOfPhase more c) → IsOfKind r x stops n c → IsOfKind wide_r wide_x wide more c
 kind_wider r x wide_r wide_x stops wide n more c requests exports ranks phase (inl h) = inl (requests h.0, h.1)
 kind_wider r x wide_r wide_x stops wide n more c requests exports ranks phase (inr (inl h)) = inr (inl (exports h.0, phase h.1))
-kind_wider r x wide_r wide_x stops wide n more c requests exports ranks phase (inr (inr h)) = inr (inr (by_stops (λ (d : Change). IsOfStops wide d) stops ranks c h))
+kind_wider r x wide_r wide_x stops wide n more c requests exports ranks phase (inr (inr h)) =
+    inr (inr (by_stops (λ (d : Change). IsOfStops wide d) stops ranks c h))

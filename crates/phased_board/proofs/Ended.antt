@@ -1,5 +1,6 @@
 -- What the end of a request makes of the tickets, and why it is refused.
-use Rattle.std.proofs.Common.{◌≡◌, ◌≢◌, ◌≤◌, ◌<◌, ℕ, zero, suc, ◌+◌, Bool, true, false, List, [], ◌∷◌, ◌++◌, length, drop, slice_get, Option, Some, None, Result, Ok, Err, refl, sym, ap, ◌∙◌, subst, inl, inr, ◌⊎◌, arith, append-nil, length-append}
+use Rattle.std.proofs.Common.{◌≡◌, ◌≢◌, ◌≤◌, ◌<◌, ℕ, zero, suc, ◌+◌, Bool, true, false, List, [], ◌∷◌, ◌++◌, length, drop, slice_get}
+use Rattle.std.proofs.Common.{Option, Some, None, Result, Ok, Err, refl, sym, ap, ◌∙◌, subst, inl, inr, ◌⊎◌, arith, append-nil, length-append}
 use Rattle.std.specs.Prelude.{is_some, nat_le, not, slice_index_or, slice_set}
 use Rattle.std.specs.List.{All}
 use Rattle.export_protocol.specs.Authority.{request_of}
@@ -32,7 +33,8 @@ use Rattle.mds_board.specs.History.{World, IsAnswer, IsReplay, entry_of}
 use Rattle.phased_board.specs.Begun.{IsEndMet}
 
 -- the first cause is that no request has the ticket
-of_causes : (full : Bool) (request : Option Request) → machine.first (machine.when full HistoryFull ∷ machine.when (not (is_some request)) NoTicket ∷ []) ≡ Some NoTicket → request ≡ None
+of_causes : (full : Bool) (request : Option Request)
+    → machine.first (machine.when full HistoryFull ∷ machine.when (not (is_some request)) NoTicket ∷ []) ≡ Some NoTicket → request ≡ None
 of_causes true request h = cc
 of_causes false None h = refl
 of_causes false (Some q) h = cc
@@ -46,7 +48,8 @@ taken [] t = refl
 taken (x ∷ tickets) zero = refl
 taken (x ∷ tickets) (suc t) = taken tickets t
 
-stays_taken : (tickets : List (Option Request)) (t other : ℕ) → slice_index_or tickets other None ≡ None → slice_index_or (slice_set tickets t None) other None ≡ None
+stays_taken : (tickets : List (Option Request)) (t other : ℕ) → slice_index_or tickets other None ≡ None
+    → slice_index_or (slice_set tickets t None) other None ≡ None
 stays_taken [] t other h = h
 stays_taken (x ∷ tickets) zero zero h = refl
 stays_taken (x ∷ tickets) zero (suc other) h = h
@@ -60,15 +63,19 @@ next_tickets s t = refl
 -- a request that ended has no ticket
 pub has_ended : (old new : World) (t : ℕ) (reply : Answer) → IsAnswer old (Step (End t)) (Ok reply) new → request_of new.state.cluster t ≡ None
 has_ended old new t reply a =
-    ap (λ (w : World). request_of w.state.cluster t) a.3 ∙ (ap (λ (ts : List (Option Request)). slice_index_or ts t None) (next_tickets old.state t) ∙ taken old.state.cluster.tickets t)
+    ap (λ (w : World). request_of w.state.cluster t) a.3
+    ∙ (ap (λ (ts : List (Option Request)). slice_index_or ts t None) (next_tickets old.state t) ∙ taken old.state.cluster.tickets t)
 
 -- one that ended before is not begun again
-pub others_ended : (old new : World) (t : ℕ) (reply : Answer) → IsAnswer old (Step (End t)) (Ok reply) new → (other : ℕ) → request_of old.state.cluster other ≡ None → request_of new.state.cluster other ≡ None
+pub others_ended : (old new : World) (t : ℕ) (reply : Answer) → IsAnswer old (Step (End t)) (Ok reply) new → (other : ℕ)
+    → request_of old.state.cluster other ≡ None → request_of new.state.cluster other ≡ None
 others_ended old new t reply a other h =
     ap (λ (w : World). request_of w.state.cluster other) a.3
     ∙ (ap (λ (ts : List (Option Request)). slice_index_or ts other None) (next_tickets old.state t) ∙ stays_taken old.state.cluster.tickets t other h)
 
-of_state : (full : Bool) (cause : Option StepError) (e : BoardError) → state.or_cause (state.when full error.HistoryFull) (state.of_step cause) ≡ Some e → (cause ≡ Some NoTicket → ⊥) → e ≢ error.Step NoTicket
+of_state : (full : Bool) (cause : Option StepError) (e : BoardError)
+    → state.or_cause (state.when full error.HistoryFull) (state.of_step cause) ≡ Some e → (cause ≡ Some NoTicket → ⊥)
+    → e ≢ error.Step NoTicket
 of_state true cause e h other is = cc
 of_state false None e h other is = cc
 of_state false (Some x) e h other is = let same : x ≡ NoTicket = cc in other (ap (λ (y : StepError). Some y) same)
@@ -77,17 +84,20 @@ memory_apart : (e : BoardError) → e ≡ error.Memory → e ≢ error.Step NoTi
 memory_apart e memory is = cc
 
 -- an end whose request still runs is refused for another cause
-pub other_cause : (s : State) (t : ℕ) (e : BoardError) → IsDue s (Step (End t)) e → (machine.refusal s.cluster (End t) ≡ Some NoTicket → ⊥) → e ≢ error.Step NoTicket
+pub other_cause : (s : State) (t : ℕ) (e : BoardError) → IsDue s (Step (End t)) e → (machine.refusal s.cluster (End t) ≡ Some NoTicket → ⊥)
+    → e ≢ error.Step NoTicket
 unfolding state.refusal
 other_cause s t e (inl cause) other = of_state (nat_le state.event_limit s.events) (machine.refusal s.cluster (End t)) e cause other
 other_cause s t e (inr (none, inl memory)) other = memory_apart e memory
 other_cause s t e (inr (none, inr best)) other = absurd best.1
 
 -- the history goes on
-pub history_ended : (old new : World) (t : ℕ) (reply : Answer) → IsAnswer old (Step (End t)) (Ok reply) new → (more : List Entry) × (new.history ≡ old.history ++ more)
+pub history_ended : (old new : World) (t : ℕ) (reply : Answer) → IsAnswer old (Step (End t)) (Ok reply) new
+    → (more : List Entry) × (new.history ≡ old.history ++ more)
 history_ended old new t reply a = (entry_of old.state (Step (End t)) ∷ [], ap (λ (w : World). w.history) a.3)
 
-pub history_refused : (old new : World) (t : ℕ) (error : BoardError) → IsAnswer old (Step (End t)) (Err error) new → (more : List Entry) × (new.history ≡ old.history ++ more)
+pub history_refused : (old new : World) (t : ℕ) (error : BoardError) → IsAnswer old (Step (End t)) (Err error) new
+    → (more : List Entry) × (new.history ≡ old.history ++ more)
 history_refused old new t error a = ([], ap (λ (w : World). w.history) a.1 ∙ sym (append-nil old.history))
 
 -- an entry's request, if it began one, runs no more
@@ -127,7 +137,8 @@ kept_at (x ∷ xs) ys (suc k) e h = kept_at xs ys k e h
 from_drop : (xs : List Entry) (n k : ℕ) (e : Entry) → slice_get (drop n xs) k ≡ Some e → slice_get xs (n + k) ≡ Some e
 from_drop xs zero k e h = let same : k ≡ 0 + k = omega arith in subst (λ (j : ℕ). slice_get xs j ≡ Some e) same h
 from_drop [] (suc n) k e h = absurd (cc)
-from_drop (x ∷ xs) (suc n) k e h = let same : suc (n + k) ≡ suc n + k = omega arith in subst (λ (j : ℕ). slice_get (x ∷ xs) j ≡ Some e) same (from_drop xs n k e h)
+from_drop (x ∷ xs) (suc n) k e h = let same : suc (n + k) ≡ suc n + k = omega arith in
+    subst (λ (j : ℕ). slice_get (x ∷ xs) j ≡ Some e) same (from_drop xs n k e h)
 
 -- tickets
 
@@ -172,7 +183,8 @@ stop_tickets s stops =
     by_stops (λ (c : Change). length (state.next s c).cluster.tickets ≡ length s.cluster.tickets) stops
     (λ rank is.
     ap (λ (t : State). length t.cluster.tickets) (after_step s (Stop rank) refl)
-    ∙ (ap (λ (ts : List (Option Request)). length ts) (stopped_tickets s.cluster rank) ∙ map_long (λ t request. machine.ends_at rank request) s.cluster.tickets))
+    ∙ (ap (λ (ts : List (Option Request)). length ts) (stopped_tickets s.cluster rank)
+    ∙ map_long (λ t request. machine.ends_at rank request) s.cluster.tickets))
 
 -- a ticket from here on is given later, or its request is over
 one_over : (now : World) (s : State) (told : Answer)
@@ -182,44 +194,52 @@ one_over : (now : World) (s : State) (told : Answer)
 one_over now s told over t low =
     by_requests (λ (c : Change). (told ≡ (state.happens s c).reply → (length (state.next s c).cluster.tickets ≤ t) ⊎ (request_of now.state.cluster t ≡ None)))
     begins
-    (λ ticket reply. (let long = ap (λ (ts : List (Option Request)). length ts) (next_tickets s ticket) ∙ as_long s.cluster.tickets ticket in inl (omega arith)))
+    (λ ticket reply. (let long = ap (λ (ts : List (Option Request)). length ts) (next_tickets s ticket)
+    ∙ as_long s.cluster.tickets ticket in inl (omega arith)))
     (λ hits reply. (let long = ap (λ (ts : List (Option Request)). length ts) (deposit_tickets s hits) in inl (omega arith)))
   where
     begins : (r d : ℕ) → told ≡ (state.happens s (Step (Begin r d))).reply
         → (length (state.next s (Step (Begin r d))).cluster.tickets ≤ t) ⊎ (request_of now.state.cluster t ≡ None)
     begins r d reply =
-        let long = ap (λ (ts : List (Option Request)). length ts) (begin_tickets s r d) ∙ length-append s.cluster.tickets (Some (record { rank = r; dir = d }) ∷ []) in
+        let long = ap (λ (ts : List (Option Request)). length ts) (begin_tickets s r d)
+        ∙ length-append s.cluster.tickets (Some (record { rank = r; dir = d }) ∷ []) in
         elim (at_or_below (length s.cluster.tickets) t low) [
           | inl less ↦ inl (omega arith)
           | inr same ↦ inr (over t (reply ∙ (begin_reply s r d ∙ ap (λ (n : ℕ). answer.Reply (Ticket n)) (sym same))))
         ]
 
-kind_over : (r x : Bool) (stops : List ℕ) (n : ℕ) (now : World) (s : State) (c : Change) (told : Answer) → IsOfKind r x stops n c → told ≡ (state.happens s c).reply
+kind_over : (r x : Bool) (stops : List ℕ) (n : ℕ) (now : World) (s : State) (c : Change) (told : Answer) → IsOfKind r x stops n c
+    → told ≡ (state.happens s c).reply
     → ((t : ℕ) → told ≡ answer.Reply (Ticket t) → request_of now.state.cluster t ≡ None) → (t : ℕ) → length s.cluster.tickets ≤ t
     → (length (state.next s c).cluster.tickets ≤ t) ⊎ (request_of now.state.cluster t ≡ None)
 kind_over r x stops n now s c told (inl is) reply over t low = one_over now s told over t low c is.1 reply
-kind_over r x stops n now s c told (inr (inl is)) reply over t low = let same = ap (λ (ts : List (Option Request)). length ts) (phase_tickets s n c is.1) in inl (omega arith)
+kind_over r x stops n now s c told (inr (inl is)) reply over t low = let same =
+    ap (λ (ts : List (Option Request)). length ts) (phase_tickets s n c is.1) in inl (omega arith)
 kind_over r x stops n now s c told (inr (inr is)) reply over t low = let same = stop_tickets s stops c is in inl (omega arith)
 
 -- the requests that began by these entries are over
-all_over : (r x : Bool) (stops : List ℕ) (n : ℕ) (now : World) (s : State) (es : List Entry) (u : State) → All (λ (e : Entry). IsOfKind r x stops n e.change) es → IsReplay s es u
+all_over : (r x : Bool) (stops : List ℕ) (n : ℕ) (now : World) (s : State) (es : List Entry) (u : State)
+    → All (λ (e : Entry). IsOfKind r x stops n e.change) es → IsReplay s es u
     → ((k : ℕ) (e : Entry) → slice_get es k ≡ Some e → IsOver now e) → (t : ℕ) → length s.cluster.tickets ≤ t → t < length u.cluster.tickets
     → request_of now.state.cluster t ≡ None
 all_over r x stops n now s [] u alone replay over t low high = let same = ap (λ (v : State). length v.cluster.tickets) replay in absurd (omega arith)
 all_over r x stops n now s (e ∷ es) u alone replay over t low high =
     elim (kind_over r x stops n now s e.change e.reply (head_has (λ (it : Entry). IsOfKind r x stops n it.change) e es alone) replay.2 (over 0 e refl) t low) [
-      | inl later ↦ all_over r x stops n now (state.next s e.change) es u (tail_have (λ (it : Entry). IsOfKind r x stops n it.change) e es alone) replay.3 (λ k. over (suc k)) t later high
+      | inl later ↦ all_over r x stops n now (state.next s e.change) es u
+          (tail_have (λ (it : Entry). IsOfKind r x stops n it.change) e es alone) replay.3 (λ k. over (suc k)) t later high
       | inr gone ↦ gone
     ]
 
 -- no request runs that began since
-pub none_runs : (r x : Bool) (stops : List ℕ) (before mid now : World) → WentOnWithStops r x stops before mid → ((k : ℕ) (e : Entry) → length before.history ≤ k → k < length mid.history → slice_get mid.history k ≡ Some e → IsOver now e)
+pub none_runs : (r x : Bool) (stops : List ℕ) (before mid now : World) → WentOnWithStops r x stops before mid
+    → ((k : ℕ) (e : Entry) → length before.history ≤ k → k < length mid.history → slice_get mid.history k ≡ Some e → IsOver now e)
     → ((t : ℕ) → request_of mid.state.cluster t ≡ None → request_of now.state.cluster t ≡ None) → (t : ℕ) → length before.state.cluster.tickets ≤ t
     → request_of now.state.cluster t ≡ None
 none_runs r x stops before mid now went over stays t low =
     elim (inside_or_past (length mid.state.cluster.tickets) t) [
       | inl inside ↦ all_over r x stops (length before.state.cluster.orders) now before.state (added before mid) mid.state went.alone went.replay
-          (λ k e is. (let found = from_drop mid.history (length before.history) k e is in over (length before.history + k) e (omega arith) (inside_of mid.history (length before.history + k) e found) found))
+          (λ k e is. (let found = from_drop mid.history (length before.history) k e is in
+          over (length before.history + k) e (omega arith) (inside_of mid.history (length before.history + k) e found) found))
           t low inside
       | inr beyond ↦ stays t (past mid.state.cluster.tickets t beyond)
     ]
@@ -242,11 +262,13 @@ over_more initial old new first number found more grown told ended stays over k 
       | inl less ↦ let inside : k < number = omega arith in stays t (over k e low inside is t reply)
       | inr same ↦
           let there : slice_get initial.history number ≡ Some e = subst (λ (j : ℕ). slice_get initial.history j ≡ Some e) (sym same) is in
-          let now : slice_get old.history number ≡ Some e = subst (λ (h : List Entry). slice_get h number ≡ Some e) (sym grown) (kept_at initial.history more number e there) in
+          let now : slice_get old.history number ≡ Some e = subst (λ (h : List Entry). slice_get h number ≡ Some e) (sym grown)
+          (kept_at initial.history more number e there) in
           ended t (told t e now reply)
     ]
 
 -- of two tellings, one is handed on
-pub either_met : (before : World) (log : List Entry) (first second told : Result Unit BoardError) → (told ≡ first) ⊎ (told ≡ second) → IsEndMet before log first → IsEndMet before log second → IsEndMet before log told
+pub either_met : (before : World) (log : List Entry) (first second told : Result Unit BoardError) → (told ≡ first) ⊎ (told ≡ second)
+    → IsEndMet before log first → IsEndMet before log second → IsEndMet before log told
 either_met before log first second told (inl is) one two = subst (λ (r : Result Unit BoardError). IsEndMet before log r) (sym is) one
 either_met before log first second told (inr is) one two = subst (λ (r : Result Unit BoardError). IsEndMet before log r) (sym is) two

@@ -1,5 +1,6 @@
 -- Boards of a phase: how one goes on to another, and that a full history stays full.
-use Rattle.std.proofs.Common.{◌≡◌, ◌≤◌, ℕ, ◌+◌, Bool, true, false, List, [], ◌∷◌, ◌++◌, length, take, drop, get_or, Option, Some, None, refl, sym, ap, ◌∙◌, subst, inl, inr, arith, append_assoc, length-append}
+use Rattle.std.proofs.Common.{◌≡◌, ◌≤◌, ℕ, ◌+◌, Bool, true, false, List, [], ◌∷◌, ◌++◌, length, take, drop}
+use Rattle.std.proofs.Common.{get_or, Option, Some, None, refl, sym, ap, ◌∙◌, subst, inl, inr, arith, append_assoc, length-append}
 use Rattle.std.proofs.lemmas.Bool.Decides.{nat_tests}
 use Rattle.std.proofs.lemmas.List.{append_cancel_left}
 use Rattle.std.specs.List.{All}
@@ -52,15 +53,19 @@ goes_between before between last mid went more =
     let is : last.history ≡ between.history ++ more.0 = sym more.1 in
     let beyond : added between last ≡ more.0 = ap (λ (l : List Entry). drop (length between.history) l) is ∙ drop_whole between.history more.0 in
     let whole : before.history ++ added before last ≡ before.history ++ (added before between ++ more.0) =
-    sym (parts_of true false before last went) ∙ (is ∙ (ap (λ (l : List Entry). l ++ more.0) (parts_of true false before between mid) ∙ append_assoc before.history (added before between) more.0)) in
-    let parts : added before last ≡ added before between ++ more.0 = append_cancel_left before.history (added before last) (added before between ++ more.0) whole in
+    sym (parts_of true false before last went)
+    ∙ (is ∙ (ap (λ (l : List Entry). l ++ more.0) (parts_of true false before between mid)
+    ∙ append_assoc before.history (added before between) more.0)) in
+    let parts : added before last ≡ added before between
+    ++ more.0 = append_cancel_left before.history (added before last) (added before between ++ more.0) whole in
     record {
       kept = ap (λ (l : List Entry). take (length between.history) l) is ∙ take_whole between.history more.0;
       alone = rw beyond (λ i d l.
           only_requests (length before.state.cluster.orders) (length between.state.cluster.orders) (get_or more.0 i d).change
           (all_after (λ (e : Entry). IsOfKind true false [] (length before.state.cluster.orders) e.change) (added before between) more.0
           (subst (λ (l : List Entry). All (λ e. IsOfKind true false [] (length before.state.cluster.orders) e.change) l) parts went.alone) i d l));
-      replay = rw beyond (replay_after before.state (added before between) more.0 between.state last.state mid.replay (subst (λ (l : List Entry). IsReplay before.state l last.state) parts went.replay));
+      replay = rw beyond (replay_after before.state (added before between) more.0 between.state last.state mid.replay
+          (subst (λ (l : List Entry). IsReplay before.state l last.state) parts went.replay));
       same_book = (went.same_book.0 ∙ sym mid.same_book.0, went.same_book.1 ∙ sym mid.same_book.1);
       same_map = inl (unpublished before last went ∙ sym (unpublished before between mid));
     }
@@ -80,7 +85,8 @@ other_cause s =
     by_requests (λ (c : Change). (state.cause s c ≡ Some error.HistoryFull → ⊥)) (λ r d. of_step (machine.refusal s.cluster (Begin r d)))
     (λ t. of_step (machine.refusal s.cluster (End t))) (λ hits h. cc)
 
-by_limit : (events : ℕ) (full : Bool) (cause : Option BoardError) → nat_le state.event_limit events ≡ full → state.or_cause (state.when full error.HistoryFull) cause ≡ Some error.HistoryFull
+by_limit : (events : ℕ) (full : Bool) (cause : Option BoardError) → nat_le state.event_limit events ≡ full
+    → state.or_cause (state.when full error.HistoryFull) cause ≡ Some error.HistoryFull
     → (cause ≡ Some error.HistoryFull → ⊥) → 1048576 ≤ events
 by_limit events true cause is h other = grind (arith, nat_tests)
 by_limit events false cause is h other = absurd (other h)
@@ -94,13 +100,15 @@ is_full s c is (inr (none, inr best)) = let not_best = best.0 in absurd (cc)
 prefix_length : (xs ys : List Entry) → IsPrefix xs ys → length xs ≤ length ys
 prefix_length xs ys p = let long = ap (λ (l : List Entry). length l) p.1 in let both = length-append xs p.0 in omega arith
 
-pub full_at_last : (before last : World) (c : Change) → is_of_requests c ≡ true → WentOnBy true false before last → IsKept last → IsMet before last.history c error.HistoryFull → 1048576 ≤ length last.history
+pub full_at_last : (before last : World) (c : Change) → is_of_requests c ≡ true → WentOnBy true false before last → IsKept last
+    → IsMet before last.history c error.HistoryFull → 1048576 ≤ length last.history
 full_at_last before last c is went kept met =
     let full = is_full met.board.state c is met.due in
     let all = events_by (state.start last.state.directories.limit last.state.pins.active) last.history last.state kept.replay in
     let more = events_by before.state (added before last) last.state went.replay in
     let long = ap (λ (l : List Entry). length l) (parts_of true false before last went) ∙ length-append before.history (added before last) in
     let some = events_by before.state (added before met.board) met.board.state met.went.replay in
-    let short = ap (λ (l : List Entry). length l) (all_parts true true met.stops before met.board met.went) ∙ length-append before.history (added before met.board) in
+    let short = ap (λ (l : List Entry). length l) (all_parts true true met.stops before met.board met.went)
+    ∙ length-append before.history (added before met.board) in
     let less = prefix_length met.board.history last.history met.kept in
     omega arith

@@ -1,5 +1,6 @@
 -- A board goes on by requests, and by exports.
-use Rattle.std.proofs.Common.{◌≡◌, ◌≤◌, ℕ, inl, inr, Bool, true, false, List, [], ◌∷◌, ◌++◌, length, take, drop, get_or, Result, Ok, Err, All, MatchBool, refl, sym, ap, ◌∙◌, subst, arith, append-nil, append_assoc}
+use Rattle.std.proofs.Common.{◌≡◌, ◌≤◌, ℕ, inl, inr, Bool, true, false, List, [], ◌∷◌, ◌++◌, length, take, drop}
+use Rattle.std.proofs.Common.{get_or, Result, Ok, Err, All, MatchBool, refl, sym, ap, ◌∙◌, subst, arith, append-nil, append_assoc}
 use Rattle.std.proofs.lemmas.List.{take-append-drop}
 use Rattle.std.proofs.lemmas.List.Elements.{All-nil, All-append}
 use Rattle.std.specs.List.{Contains}
@@ -74,7 +75,8 @@ published_both x old between first more now replay before (inr p) =
       first ++ p.1,
       p.2,
       ap (λ m. first ++ m) p.3 ∙ sym (append_assoc first p.1 p.2),
-      p.4 ∙ (ap (λ s. (after s p.1).map) (replay_after old.state first between.state replay) ∙ ap (λ (s : State). s.map) (sym (after_both old.state first p.1))),
+      p.4 ∙ (ap (λ s. (after s p.1).map) (replay_after old.state first between.state replay)
+          ∙ ap (λ (s : State). s.map) (sym (after_both old.state first p.1))),
     )
 
 -- going on
@@ -95,7 +97,8 @@ stays r x stops w = record {
 }
 
 -- by these entries more
-went_more : (r x : Bool) (stops : List ℕ) (first old new : World) (more : List Entry) → WentOnWithStops r x stops first old → new.history ≡ old.history ++ more → IsReplay old.state more new.state
+went_more : (r x : Bool) (stops : List ℕ) (first old new : World) (more : List Entry) → WentOnWithStops r x stops first old
+    → new.history ≡ old.history ++ more → IsReplay old.state more new.state
     → All (λ (e : Entry). IsOfKind r x stops (length first.state.cluster.orders) e.change) more → (new.is_open ≡ old.is_open) × (new.shares ≡ old.shares)
     → IsPublished x old more new.published → WentOnWithStops r x stops first new
 went_more r x stops first old new more h is replay kinds book map =
@@ -113,7 +116,8 @@ phase_earlier : (n more : ℕ) (c : Change) → n ≤ more → IsOfPhase more c 
 phase_earlier n more (Step (Abort x)) less is = omega arith
 phase_earlier n more _ less is = is
 
-pub joins : (r x : Bool) (stops : List ℕ) (old between new : World) → WentOnWithStops r x stops old between → WentOnWithStops r x stops between new → WentOnWithStops r x stops old new
+pub joins : (r x : Bool) (stops : List ℕ) (old between new : World) → WentOnWithStops r x stops old between
+    → WentOnWithStops r x stops between new → WentOnWithStops r x stops old new
 joins r x stops old between new h k =
     let less = no_fewer r x stops old between h in
     let n : ℕ = length old.state.cluster.orders in
@@ -123,7 +127,8 @@ joins r x stops old between new h k =
     (phase_earlier n (length between.state.cluster.orders) (get_or (added between new) i d).change less) (k.alone i d l))
     k.same_book k.same_map
 
-published_wider : (x wide : Bool) (old : World) (more : List Entry) (now : List Operation) → (x ≡ true → wide ≡ true) → IsPublished x old more now → IsPublished wide old more now
+published_wider : (x wide : Bool) (old : World) (more : List Entry) (now : List Operation) → (x ≡ true → wide ≡ true)
+    → IsPublished x old more now → IsPublished wide old more now
 published_wider x wide old more now f (inl same) = inl same
 published_wider x wide old more now f (inr p) = inr (f p.0, p.1, p.2, p.3, p.4)
 
@@ -160,9 +165,11 @@ pub answer_adds : (before : ℕ) (old new : World) (c : Change) (reply : Result 
     → All (λ (e : Entry). IsOfPhase before e.change) (added old new)
 answer_adds before old new c (Ok reply) is a =
     let one : added old (recorded old c) ≡ entry_of old.state c ∷ [] =
-    drop_longer old.history old.history (entry_of old.state c ∷ []) (take_all old.history) ∙ ap (λ (l : List Entry). l ++ entry_of old.state c ∷ []) (drop_all old.history) in
+    drop_longer old.history old.history (entry_of old.state c ∷ []) (take_all old.history)
+    ∙ ap (λ (l : List Entry). l ++ entry_of old.state c ∷ []) (drop_all old.history) in
     subst (λ (w : World). All (λ (e : Entry). IsOfPhase before e.change) (added old w)) (sym a.3)
-    (subst (λ (l : List Entry). All (λ (e : Entry). IsOfPhase before e.change) l) (sym one) (one_has (λ (e : Entry). IsOfPhase before e.change) (entry_of old.state c) is))
+    (subst (λ (l : List Entry). All (λ (e : Entry). IsOfPhase before e.change) l) (sym one)
+    (one_has (λ (e : Entry). IsOfPhase before e.change) (entry_of old.state c) is))
 answer_adds before old new c (Err error) is a =
     subst (λ (w : World). All (λ (e : Entry). IsOfPhase before e.change) (added old w)) (sym a.1) (adds_none before old)
 
@@ -172,7 +179,8 @@ longer old new c (Ok reply) a = (entry_of old.state c ∷ [], sym (ap (λ (w : W
 longer old new c (Err e) a = ([], append-nil old.history ∙ sym (ap (λ (w : World). w.history) a.1))
 
 -- the map is published, or memory was refused
-pub map_published : (r x done : Bool) (stops : List ℕ) (first old new : World) → x ≡ true → WentOnWithStops r x stops first old → MatchBool done (new ≡ record old { published = old.state.map }) (new ≡ old)
+pub map_published : (r x done : Bool) (stops : List ℕ) (first old new : World) → x ≡ true → WentOnWithStops r x stops first old
+    → MatchBool done (new ≡ record old { published = old.state.map }) (new ≡ old)
     → WentOnWithStops r x stops first new
 map_published r x true stops first old new exports h is =
     subst (λ (w : World). WentOnWithStops r x stops first w) (sym is)
@@ -216,7 +224,8 @@ exports_keep stops n s c (inl h) = let no = h.0 in absurd (cc)
 exports_keep stops n s c (inr (inl h)) = by_exports (λ (d : Change). KeepsRest s (next s d)) n (λ e inner is. step_keeps s e inner) c h.1
 exports_keep stops n s c (inr (inr h)) = by_stops (λ (d : Change). KeepsRest s (next s d)) stops (λ rank is. step_keeps s (Stop rank) refl) c h
 
-replay_keeps : (stops : List ℕ) (n : ℕ) (s : State) (es : List Entry) (t : State) → All (λ (e : Entry). IsOfKind false true stops n e.change) es → IsReplay s es t → KeepsRest s t
+replay_keeps : (stops : List ℕ) (n : ℕ) (s : State) (es : List Entry) (t : State)
+    → All (λ (e : Entry). IsOfKind false true stops n e.change) es → IsReplay s es t → KeepsRest s t
 replay_keeps stops n s [] t kinds h = subst (λ u. KeepsRest s u) (sym h) (none_change s)
 replay_keeps stops n s (e ∷ es) t kinds h =
     both_keep s (next s e.change) t (exports_keep stops n s e.change (head_has (λ (it : Entry). IsOfKind false true stops n it.change) e es kinds))

@@ -1,5 +1,6 @@
 -- The board of a phase goes on, with its standings and tickets.
-use Rattle.std.proofs.Common.{◌≡◌, ◌≤◌, ◌+◌, ℕ, Bool, MatchBool, true, false, inl, inr, List, [], ◌∷◌, length, All, Result, Ok, Err, Option, Some, refl, sym, ap, ◌∙◌, arith, append-nil, length-append}
+use Rattle.std.proofs.Common.{◌≡◌, ◌≤◌, ◌+◌, ℕ, Bool, MatchBool, true, false, inl, inr, List, [], ◌∷◌, length}
+use Rattle.std.proofs.Common.{All, Result, Ok, Err, Option, Some, refl, sym, ap, ◌∙◌, arith, append-nil, length-append}
 use Rattle.std.specs.List.{count_by}
 use Rattle.export_protocol.specs.Cluster.{World as Cluster}
 use Rattle.export_protocol.specs.declared.event.Request.{Request}
@@ -26,23 +27,27 @@ use Rattle.phased_board.proofs.Ended.{as_long, begin_tickets, deposit_tickets, n
 request_tickets : (s : State) (c : Change) → is_of_requests c ≡ true → length s.cluster.tickets ≤ length (next s c).cluster.tickets
 request_tickets s =
     by_requests (λ (c : Change). length s.cluster.tickets ≤ length (next s c).cluster.tickets)
-    (λ r d. (let long = ap (λ (ts : List (Option Request)). length ts) (begin_tickets s r d) ∙ length-append s.cluster.tickets (Some (record { rank = r; dir = d }) ∷ []) in omega arith))
+    (λ r d. (let long = ap (λ (ts : List (Option Request)). length ts) (begin_tickets s r d)
+    ∙ length-append s.cluster.tickets (Some (record { rank = r; dir = d }) ∷ []) in omega arith))
     (λ t. (let long = ap (λ (ts : List (Option Request)). length ts) (next_tickets s t) ∙ as_long s.cluster.tickets t in omega arith))
     (λ hits. (let long = ap (λ (ts : List (Option Request)). length ts) (deposit_tickets s hits) in omega arith))
 
-kind_tickets : (r x : Bool) (stops : List ℕ) (n : ℕ) (s : State) (c : Change) → IsOfKind r x stops n c → length s.cluster.tickets ≤ length (next s c).cluster.tickets
+kind_tickets : (r x : Bool) (stops : List ℕ) (n : ℕ) (s : State) (c : Change) → IsOfKind r x stops n c
+    → length s.cluster.tickets ≤ length (next s c).cluster.tickets
 kind_tickets r x stops n s c (inl is) = request_tickets s c is.1
 kind_tickets r x stops n s c (inr (inl is)) = let long = ap (λ (ts : List (Option Request)). length ts) (phase_tickets s n c is.1) in omega arith
 kind_tickets r x stops n s c (inr (inr is)) = let long = stop_tickets s stops c is in omega arith
 
-replay_tickets : (r x : Bool) (stops : List ℕ) (n : ℕ) (s : State) (es : List Entry) (t : State) → All (λ (e : Entry). IsOfKind r x stops n e.change) es → IsReplay s es t
+replay_tickets : (r x : Bool) (stops : List ℕ) (n : ℕ) (s : State) (es : List Entry) (t : State)
+    → All (λ (e : Entry). IsOfKind r x stops n e.change) es → IsReplay s es t
     → length s.cluster.tickets ≤ length t.cluster.tickets
 replay_tickets r x stops n s [] t kinds h = let same = ap (λ (u : State). length u.cluster.tickets) h in omega arith
 replay_tickets r x stops n s (e ∷ es) t kinds h =
     let first = kind_tickets r x stops n s e.change (head_has (λ (it : Entry). IsOfKind r x stops n it.change) e es kinds) in
     let rest = replay_tickets r x stops n (next s e.change) es t (tail_have (λ (it : Entry). IsOfKind r x stops n it.change) e es kinds) h.3 in omega arith
 
-answer_tickets : (r x : Bool) (stops : List ℕ) (n : ℕ) (old new : World) (c : Change) (reply : Result Answer BoardError) → IsOfKind r x stops n c → IsAnswer old c reply new
+answer_tickets : (r x : Bool) (stops : List ℕ) (n : ℕ) (old new : World) (c : Change) (reply : Result Answer BoardError)
+    → IsOfKind r x stops n c → IsAnswer old c reply new
     → length old.state.cluster.tickets ≤ length new.state.cluster.tickets
 answer_tickets r x stops n old new c (Ok reply) is a =
     let same = ap (λ (w : World). length w.state.cluster.tickets) a.3 in
@@ -50,8 +55,10 @@ answer_tickets r x stops n old new c (Ok reply) is a =
 answer_tickets r x stops n old new c (Err error) is a = let same = ap (λ (w : World). length w.state.cluster.tickets) a.1 in omega arith
 
 -- an answered change that starts no export
-pub answers_on : (r x : Bool) (stops : List ℕ) (first : World) (orders : List Order) (old : World) (standings : List Standing) (given : ℕ) (c : Change) (reply : Result Answer BoardError) (new : World)
-    → IsOnTheWay r x stops first orders old standings given → IsOfKind r x stops (length first.state.cluster.orders) c → started_by c ≡ [] → IsAnswer old c reply new
+pub answers_on : (r x : Bool) (stops : List ℕ) (first : World) (orders : List Order) (old : World) (standings : List Standing) (given : ℕ)
+    (c : Change) (reply : Result Answer BoardError) (new : World)
+    → IsOnTheWay r x stops first orders old standings given → IsOfKind r x stops (length first.state.cluster.orders) c → started_by c ≡ []
+    → IsAnswer old c reply new
     → IsOnTheWay r x stops first orders new standings given
 answers_on r x stops first orders old standings given c reply new h is none a =
     let same = none_started r x stops (length first.state.cluster.orders) old new c reply is none a in
@@ -67,8 +74,10 @@ none_requested : (c : Change) → is_of_requests c ≡ true → started_by c ≡
 none_requested = by_requests (λ (c : Change). started_by c ≡ []) (λ r d. refl) (λ t. refl) (λ hits. refl)
 
 -- an answered request, end or deposit
-pub requests_on : (r x : Bool) (stops : List ℕ) (first : World) (orders : List Order) (old : World) (standings : List Standing) (given : ℕ) (c : Change) (reply : Result Answer BoardError) (new : World)
-    → r ≡ true → IsOnTheWay r x stops first orders old standings given → is_of_requests c ≡ true → IsAnswer old c reply new → IsOnTheWay r x stops first orders new standings given
+pub requests_on : (r x : Bool) (stops : List ℕ) (first : World) (orders : List Order) (old : World) (standings : List Standing) (given : ℕ)
+    (c : Change) (reply : Result Answer BoardError) (new : World)
+    → r ≡ true → IsOnTheWay r x stops first orders old standings given → is_of_requests c ≡ true → IsAnswer old c reply new
+    → IsOnTheWay r x stops first orders new standings given
 requests_on r x stops first orders old standings given c reply new requests h is a =
     answers_on r x stops first orders old standings given c reply new h (inl (requests, is)) (none_requested c is) a
 
@@ -79,7 +88,8 @@ pub settles_on : (r x : Bool) (stops : List ℕ) (first : World) (orders : List 
     → IsOnTheWay r x stops first orders new after given
 settles_on r x stops first orders old new standings after given exports h by asked counted =
     let more = replay_tickets false true [] (length old.state.cluster.orders) old.state (added old new) new.state by.alone by.replay in record {
-      went = joins r x stops first old new h.went (wider false true r x [] stops old new (λ no. absurd (cc)) (λ is. exports) (λ rank none. absurd (none_named rank none)) by);
+      went = joins r x stops first old new h.went
+          (wider false true r x [] stops old new (λ no. absurd (cc)) (λ is. exports) (λ rank none. absurd (none_named rank none)) by);
       asked = asked;
       counted = let e = h.counted in omega arith;
       given = let before = h.given in omega arith;

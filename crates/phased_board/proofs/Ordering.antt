@@ -1,5 +1,6 @@
 -- Exports that were started stay.
-use Rattle.std.proofs.Common.{◌≡◌, ◌≤◌, ℕ, zero, suc, Bool, true, false, inl, inr, Result, Ok, Err, List, [], ◌∷◌, ◌++◌, length, All, Some, slice_get, refl, sym, ap, ◌∙◌, arith, append-nil, append_assoc, length-append}
+use Rattle.std.proofs.Common.{◌≡◌, ◌≤◌, ℕ, zero, suc, Bool, true, false, inl, inr, Result, Ok, Err, List, []}
+use Rattle.std.proofs.Common.{◌∷◌, ◌++◌, length, All, Some, slice_get, refl, sym, ap, ◌∙◌, arith, append-nil, append_assoc, length-append}
 use Rattle.export_protocol.specs.Cluster.{World as Cluster}
 use Rattle.export_protocol.specs.declared.event.Event.{Event}
 use Rattle.export_protocol.specs.declared.event.Reply.{Reply}
@@ -47,7 +48,8 @@ stop_orders : (w : Cluster) (rank : ℕ) → (after_event w (Stop rank)).orders 
 unfolding machine.happens
 stop_orders w rank = sym (append-nil w.orders)
 
-kind_orders : (r x : Bool) (stops : List ℕ) (n : ℕ) (s : State) (c : Change) → IsOfKind r x stops n c → (next s c).cluster.orders ≡ s.cluster.orders ++ started_by c
+kind_orders : (r x : Bool) (stops : List ℕ) (n : ℕ) (s : State) (c : Change) → IsOfKind r x stops n c
+    → (next s c).cluster.orders ≡ s.cluster.orders ++ started_by c
 kind_orders r x stops n s c (inl h) = request_orders s c h.1
 kind_orders r x stops n s c (inr (inl h)) =
     by_exports (λ (c : Change). (next s c).cluster.orders ≡ s.cluster.orders ++ started_by c) n
@@ -56,7 +58,8 @@ kind_orders r x stops n s c (inr (inr h)) =
     by_stops (λ (c : Change). (next s c).cluster.orders ≡ s.cluster.orders ++ started_by c) stops
     (λ rank is. ap (λ (t : State). t.cluster.orders) (after_step s (Stop rank) refl) ∙ stop_orders s.cluster rank) c h
 
-replay_orders : (r x : Bool) (stops : List ℕ) (n : ℕ) (s : State) (es : List Entry) (t : State) → All (λ (e : Entry). IsOfKind r x stops n e.change) es → IsReplay s es t
+replay_orders : (r x : Bool) (stops : List ℕ) (n : ℕ) (s : State) (es : List Entry) (t : State)
+    → All (λ (e : Entry). IsOfKind r x stops n e.change) es → IsReplay s es t
     → (more : List Order) × (t.cluster.orders ≡ s.cluster.orders ++ more)
 replay_orders r x stops n s [] t kinds h = ([], ap (λ (u : State). u.cluster.orders) h ∙ sym (append-nil s.cluster.orders))
 replay_orders r x stops n s (e ∷ es) t kinds h =
@@ -65,7 +68,8 @@ replay_orders r x stops n s (e ∷ es) t kinds h =
     (started_by e.change ++ rest.0, rest.1 ∙ (ap (λ os. os ++ rest.0) first ∙ append_assoc s.cluster.orders (started_by e.change) rest.0))
 
 -- where a board goes on, the exports so far are the first
-pub orders_stay : (r x : Bool) (stops : List ℕ) (old new : World) → WentOnWithStops r x stops old new → (more : List Order) × (new.state.cluster.orders ≡ old.state.cluster.orders ++ more)
+pub orders_stay : (r x : Bool) (stops : List ℕ) (old new : World) → WentOnWithStops r x stops old new
+    → (more : List Order) × (new.state.cluster.orders ≡ old.state.cluster.orders ++ more)
 orders_stay r x stops old new h = replay_orders r x stops (length old.state.cluster.orders) old.state (added old new) new.state h.alone h.replay
 
 pub get_first : {A : Type 0} (xs ys : List A) (k : ℕ) (a : A) → slice_get xs k ≡ Some a → slice_get (xs ++ ys) k ≡ Some a
@@ -77,7 +81,8 @@ pub get_last : {A : Type 0} (xs : List A) (a : A) → slice_get (xs ++ a ∷ [])
 get_last [] a = refl
 get_last (x ∷ xs) a = get_last xs a
 
-pub no_fewer : (r x : Bool) (stops : List ℕ) (old new : World) → WentOnWithStops r x stops old new → length old.state.cluster.orders ≤ length new.state.cluster.orders
+pub no_fewer : (r x : Bool) (stops : List ℕ) (old new : World) → WentOnWithStops r x stops old new
+    → length old.state.cluster.orders ≤ length new.state.cluster.orders
 no_fewer r x stops old new h =
     let more = orders_stay r x stops old new h in
     let e = ap (λ (os : List Order). length os) more.1 ∙ length-append old.state.cluster.orders more.0 in omega arith
@@ -100,7 +105,8 @@ pub none_by : (e : Event) → is_later e ≡ true → started_by (Step e) ≡ []
 none_by (Start from to dirs) h = absurd (cc)
 none_by _ h = refl
 
-pub none_started : (r x : Bool) (stops : List ℕ) (n : ℕ) (old new : World) (c : Change) (reply : Result Answer BoardError) → IsOfKind r x stops n c → started_by c ≡ [] → IsAnswer old c reply new
+pub none_started : (r x : Bool) (stops : List ℕ) (n : ℕ) (old new : World) (c : Change) (reply : Result Answer BoardError)
+    → IsOfKind r x stops n c → started_by c ≡ [] → IsAnswer old c reply new
     → new.state.cluster.orders ≡ old.state.cluster.orders
 none_started r x stops n old new c (Ok reply) is none h =
     ap (λ (w : World). w.state.cluster.orders) h.3

@@ -29,17 +29,20 @@ stopped_now stops before old new rank reply went a = record {
   kept = ([], append-nil (old.history ++ entry_of old.state (Step (Stop rank)) ∷ []) ∙ sym (ap (λ (w : World). w.history) a.3));
 }
 
-pub stopped_by : (stops : List ℕ) (before old new : World) (rank : ℕ) (r : Result Reply BoardError) (u : Result Unit BoardError) → (IsOk u → IsOk r) → WentOnWithStops true true stops before old
+pub stopped_by : (stops : List ℕ) (before old new : World) (rank : ℕ) (r : Result Reply BoardError) (u : Result Unit BoardError)
+    → (IsOk u → IsOk r) → WentOnWithStops true true stops before old
     → IsAnswer old (Step (Stop rank)) (spelled answer.Reply r) new → OnOk u (IsStopped before new.history rank)
 stopped_by stops before old new rank (Ok reply) (Ok done) same went a = stopped_now stops before old new rank (answer.Reply reply) went a
 stopped_by stops before old new rank (Err e) (Ok done) same went a = let no = same refl in absurd (cc)
 stopped_by stops before old new rank r (Err e) same went a = tt
 
-pub refused_by : (stops : List ℕ) (before old new : World) (rank : ℕ) (r : Result Reply BoardError) (u : Result Unit BoardError) → IfErr u (λ e. r ≡ Err e) → WentOnWithStops true true stops before old
+pub refused_by : (stops : List ℕ) (before old new : World) (rank : ℕ) (r : Result Reply BoardError) (u : Result Unit BoardError)
+    → IfErr u (λ e. r ≡ Err e) → WentOnWithStops true true stops before old
     → IsAnswer old (Step (Stop rank)) (spelled answer.Reply r) new → IfErr u (λ e. IsMet before new.history (Step (Stop rank)) e)
 refused_by stops before old new rank r (Ok done) is went a = tt
 refused_by stops before old new rank r (Err e) is went a =
-    met_now stops before old new (Step (Stop rank)) answer.Reply (Err e) went (subst (λ (x : Result Reply BoardError). IsAnswer old (Step (Stop rank)) (spelled answer.Reply x) new) is a)
+    met_now stops before old new (Step (Stop rank)) answer.Reply (Err e) went
+    (subst (λ (x : Result Reply BoardError). IsAnswer old (Step (Stop rank)) (spelled answer.Reply x) new) is a)
 
 pub stopped_later : (before : World) (log longer : List Entry) (rank : ℕ) → IsPrefix log longer → IsStopped before log rank → IsStopped before longer rank
 stopped_later before log longer rank more h = record {
@@ -60,7 +63,8 @@ told_more before log longer told next rank more kept (inr h) = inr (h.0, met_lat
 abbrev pub IsMetOf : World → List Entry → List RankStop → Result Unit BoardError → Type 0
 IsMetOf before log stops told = IfErr told (λ e. (rank : ℕ) × Contains (ranks_of stops) rank × IsMet before log (Step (Stop rank)) e)
 
-pub met_more : (before : World) (log longer : List Entry) (stops : List RankStop) (told : Result Unit BoardError) → IsPrefix log longer → IsMetOf before log stops told → IsMetOf before longer stops told
+pub met_more : (before : World) (log longer : List Entry) (stops : List RankStop) (told : Result Unit BoardError) → IsPrefix log longer
+    → IsMetOf before log stops told → IsMetOf before longer stops told
 met_more before log longer stops (Ok done) more h = tt
 met_more before log longer stops (Err e) more h = (h.0, h.1, met_later before log longer (Step (Stop h.0)) e more h.2)
 

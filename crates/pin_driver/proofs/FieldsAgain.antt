@@ -1,5 +1,6 @@
 -- Fields that are written are read again.
-use Rattle.std.proofs.Common.{◌≡◌, ◌∙◌, ℕ, suc, ◌+◌, ◌-◌, ◌*◌, ◌/◌, ◌%◌, ◌<◌, ◌≤◌, ◌^◌, Bool, true, false, not, ◌&&◌, cond, List, [], ◌∷◌, ◌++◌, codes, length, take, drop, refl, sym, ap, subst, arith, one-add, append_assoc, Option, Some, None}
+use Rattle.std.proofs.Common.{◌≡◌, ◌∙◌, ℕ, suc, ◌+◌, ◌-◌, ◌*◌, ◌/◌, ◌%◌, ◌<◌, ◌≤◌, ◌^◌, Bool, true, false, not, ◌&&◌, cond}
+use Rattle.std.proofs.Common.{List, [], ◌∷◌, ◌++◌, codes, length, take, drop, refl, sym, ap, subst, arith, one-add, append_assoc, Option, Some, None}
 use Rattle.std.specs.Prelude.{◌==◌, decimal, nat_le, slice_index, IfSome}
 use Rattle.std.specs.Char.{digit_value}
 use Rattle.std.specs.List.{after_first, before_first, list_all, position_or_len}
@@ -11,7 +12,8 @@ use Rattle.std.proofs.lemmas.Bool.Decides.{nat_tests}
 use Rattle.std.proofs.lemmas.Fmt.{decimal_is_IsNumeral}
 use Rattle.std.proofs.lemmas.List.Elements.{All-head, All-tail}
 use Rattle.std.proofs.lemmas.Slice.Eq.{bytes_eq-Decides}
-use Rattle.pin_driver.specs.StoredReading.{escape_value, field_bytes, field_number, field_rank, closes_field, is_escape, is_octal_to, meant_bytes, next_digit, number_onto, or_dash, read_field, skip_word}
+use Rattle.pin_driver.specs.StoredReading.{escape_value, field_bytes, field_number, field_rank, closes_field, is_escape, is_octal_to}
+use Rattle.pin_driver.specs.StoredReading.{meant_bytes, next_digit, number_onto, or_dash, read_field, skip_word}
 use Rattle.pin_driver.specs.StoredText.{AreBytes, field_text, is_kept, kept_bytes, last_text, number_or_dash}
 use Rattle.pin_driver.proofs.Many.{then_reads}
 

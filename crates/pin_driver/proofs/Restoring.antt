@@ -1,14 +1,18 @@
 -- A restorer and its exchanges, one answer after the other.
-use Rattle.std.proofs.Common.{◌≡◌, ◌⊎◌, ℕ, suc, ◌-◌, ◌<◌, ◌≤◌, Bool, true, false, not, ◌&&◌, cond, Option, Some, None, List, [], ◌∷◌, refl, sym, ap, ◌∙◌, subst, inl, inr, arith}
+use Rattle.std.proofs.Common.{◌≡◌, ◌⊎◌, ℕ, suc, ◌-◌, ◌<◌, ◌≤◌, Bool, true, false, not, ◌&&◌, cond, Option}
+use Rattle.std.proofs.Common.{Some, None, List, [], ◌∷◌, refl, sym, ap, ◌∙◌, subst, inl, inr, arith}
 use Rattle.std.specs.Prelude.{slice_get, nat_le}
 use Rattle.std.proofs.lemmas.Bool.{leb-true}
 use Rattle.std.proofs.lemmas.Bool.Decides.{eqb_tells}
-use Rattle.pin_driver.specs.Exchanges.{Exchange, trouble_after, IsClusterLast, Ascends, MayBeStored, first_asked, last_stored, stored_mark, first_cluster, named_cluster, or_later}
+use Rattle.pin_driver.specs.Exchanges.{Exchange, trouble_after, IsClusterLast, Ascends, MayBeStored, first_asked}
+use Rattle.pin_driver.specs.Exchanges.{last_stored, stored_mark, first_cluster, named_cluster, or_later}
 use Rattle.pin_driver.specs.Notes.{with_place}
 use Rattle.pin_driver.specs.declared.note.Note.TheVariants as kinds
-use Rattle.pin_driver.specs.Restored.{IsRightBackQuestion, AreRightBackQuestions, IsRightReturn, IsRightBackEnd, IsBackText, IsRestored, IsOurDirectory, IsFoundOurs, put_right, put_right_more}
+use Rattle.pin_driver.specs.Restored.{IsRightBackQuestion, AreRightBackQuestions, IsRightReturn, IsRightBackEnd, IsBackText}
+use Rattle.pin_driver.specs.Restored.{IsRestored, IsOurDirectory, IsFoundOurs, put_right, put_right_more}
 use Rattle.pin_driver.specs.Restoring.{any_directory, doubtful_mark, no_mark, restorable_at, is_restorable, is_given, former_pin, restored_one}
-use Rattle.pin_driver.specs.Restoring.{restorer_after, restorer_question, restorer_question_in, restorer_run, restorer_start, restorer_trouble, restorer_advanced, restorer_verdict, restorer_ended}
+use Rattle.pin_driver.specs.Restoring.{restorer_after, restorer_question, restorer_question_in, restorer_run, restorer_start}
+use Rattle.pin_driver.specs.Restoring.{restorer_trouble, restorer_advanced, restorer_verdict, restorer_ended}
 use Rattle.pin_driver.specs.Setting.{with_exchange}
 use Rattle.pin_driver.specs.Troubles.{trouble, is_inode, is_same_pin}
 use Rattle.pin_driver.specs.declared.answer.ClusterState.{ClusterState}

@@ -2,7 +2,8 @@
 use Rattle.std.proofs.Common.{◌≡◌, ℕ, ◌<◌, true, false, Option, Some, None, List, [], ◌∷◌, length, refl, sym, ap, ◌∙◌, subst, inl, arith}
 use Rattle.pin_driver.specs.Driven.{IsRightQuestion, AreRightQuestions, IsTextOf, IsDriven, IsMark}
 use Rattle.pin_driver.specs.Exchanges.{Exchange, first_asked, MayBeStored}
-use Rattle.pin_driver.specs.Setting.{setter_after, setter_question, setter_run, setter_start, setter_trouble, question_in, advanced, after_verdict, with_exchange, has_ended}
+use Rattle.pin_driver.specs.Setting.{setter_after, setter_question, setter_run, setter_start, setter_trouble}
+use Rattle.pin_driver.specs.Setting.{question_in, advanced, after_verdict, with_exchange, has_ended}
 use Rattle.pin_driver.specs.Troubles.{trouble, unlike_plan}
 use Rattle.pin_driver.specs.declared.answer.HostAnswer.{HostAnswer}
 use Rattle.pin_driver.specs.declared.question.Ending.TheVariants.{Stopped}

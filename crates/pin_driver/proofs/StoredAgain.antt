@@ -4,12 +4,15 @@ use Rattle.std.specs.Prelude.{decimal, IfSome}
 use Rattle.std.specs.List.{flat_map}
 use Rattle.std.proofs.lemmas.List.Elements.{All-head, All-tail}
 use Rattle.pin_driver.specs.PinPlan.{PlanParts}
-use Rattle.pin_driver.specs.StoredReading.{field_bytes, field_number, field_rank, or_dash, read_body, read_change, read_changes, read_count, read_earlier, read_field, read_identity, read_many, read_mark, read_pins, skip_word}
-use Rattle.pin_driver.specs.StoredText.{AreBytes, FitsChange, FitsEarlier, FitsText, body_text, change_text, count_text, earlier_text, field_text, kept_bytes, last_text, mark_text, number_or_dash, version_text}
+use Rattle.pin_driver.specs.StoredReading.{field_bytes, field_number, field_rank, or_dash, read_body, read_change, read_changes, read_count}
+use Rattle.pin_driver.specs.StoredReading.{read_earlier, read_field, read_identity, read_many, read_mark, read_pins, skip_word}
+use Rattle.pin_driver.specs.StoredText.{AreBytes, FitsChange, FitsEarlier, FitsText, body_text, change_text, count_text}
+use Rattle.pin_driver.specs.StoredText.{earlier_text, field_text, kept_bytes, last_text, mark_text, number_or_dash, version_text}
 use Rattle.pin_driver.specs.declared.plan.EarlierPin.{EarlierPin}
 use Rattle.pin_driver.specs.declared.plan.PlannedChange.{PlannedChange}
 use Rattle.pin_driver.specs.declared.question.Mark.{Mark}
-use Rattle.pin_driver.proofs.FieldsAgain.{bytes_again, bytes_field, dash_again, dash_field, decimal_field, number_again, rank_again, value_last, value_next, word_last, word_next}
+use Rattle.pin_driver.proofs.FieldsAgain.{bytes_again, bytes_field, dash_again, dash_field, decimal_field, number_again}
+use Rattle.pin_driver.proofs.FieldsAgain.{rank_again, value_last, value_next, word_last, word_next}
 use Rattle.pin_driver.proofs.Many.{then_reads}
 
 six : (a b c d e f more : List ℕ) → (a ++ b ++ c ++ d ++ e ++ f) ++ more ≡ a ++ (b ++ (c ++ (d ++ (e ++ (f ++ more)))))

@@ -1,5 +1,6 @@
 -- Sums over neighbouring rows add up.
-use Rattle.std.proofs.Common.{◌≡◌, ◌∙◌, ◌+◌, ◌-◌, ◌*◌, ◌^◌, ◌<◌, ◌≤◌, cond, eqb, leb, sym, ℕ, zero, suc, false, ◌&&◌, List, get_or, length, slice_index, refl, arith, ⊎_elim}
+use Rattle.std.proofs.Common.{◌≡◌, ◌∙◌, ◌+◌, ◌-◌, ◌*◌, ◌^◌, ◌<◌, ◌≤◌, cond, eqb, leb, sym}
+use Rattle.std.proofs.Common.{ℕ, zero, suc, false, ◌&&◌, List, get_or, length, slice_index, refl, arith, ⊎_elim}
 use Rattle.std.proofs.lemmas.Bool.{cases_lt, false_from_ne_true, le-leb, leb-true}
 use Rattle.std.proofs.lemmas.List.{get_or_default}
 use Rattle.std.proofs.lemmas.Nat.{row_fits}

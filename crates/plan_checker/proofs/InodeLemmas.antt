@@ -4,7 +4,8 @@ use Rattle.mds_types.specs.declared.problem.ProblemRow.{ProblemRow}
 use Rattle.mds_types.specs.Problem.{inodes_at, now_at}
 use Rattle.mds_types.specs.Placing.{cost, moved_at}
 use Rattle.mds_types.specs.Sums.{sum_below}
-use Rattle.mds_types.proofs.SumsLemmas.{sum_below-le, sum_below-term, sum_below-fewer, sum_below_more, sum_below-same, sum_below-add, sum_below-swap, sum_below-pick, sum_below-zero}
+use Rattle.mds_types.proofs.SumsLemmas.{sum_below-le, sum_below-term, sum_below-fewer, sum_below_more, sum_below-same}
+use Rattle.mds_types.proofs.SumsLemmas.{sum_below-add, sum_below-swap, sum_below-pick, sum_below-zero}
 use Rattle.plan_checker.specs.Costs.{own_inodes, part_total}
 
 -- the inodes of a part

@@ -1,5 +1,6 @@
 -- The sums over the children of each row, and what a table says row by row.
-use Rattle.std.proofs.Common.{◌≡◌, ◌≢◌, ◌∙◌, ◌↔◌, ◌+◌, ◌-◌, ◌^◌, ◌<◌, ◌≤◌, ap, cond, eqb, ltb, sym, ℕ, suc, Bool, true, false, List, length, refl, add-one, arith, ⊎_elim, slice_index_or, subst}
+use Rattle.std.proofs.Common.{◌≡◌, ◌≢◌, ◌∙◌, ◌↔◌, ◌+◌, ◌-◌, ◌^◌, ◌<◌, ◌≤◌, ap, cond, eqb, ltb, sym}
+use Rattle.std.proofs.Common.{ℕ, suc, Bool, true, false, List, length, refl, add-one, arith, ⊎_elim, slice_index_or, subst}
 use Rattle.std.proofs.lemmas.Bool.{cases_eq, eq-eqb, eqb-true, lt-ltb, ltb-true, and_parts, and_from}
 use Rattle.mds_types.specs.declared.problem.ProblemRow.{ProblemRow}
 use Rattle.mds_types.specs.declared.cut_proof.Row.{Row}

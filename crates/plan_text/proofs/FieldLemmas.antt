@@ -1,5 +1,6 @@
 -- The fields of a line, read one by one from the front.
-use Rattle.std.proofs.Common.{◌≡◌, ◌∙◌, ℕ, zero, suc, ◌+◌, ◌-◌, ◌/◌, ◌%◌, ◌*◌, ◌<◌, ◌≤◌, ◌^◌, Bool, true, false, cond, List, [], ◌∷◌, ◌++◌, codes, length, take, drop, refl, sym, ap, subst, arith, one-add, append_assoc, Option, Some, None}
+use Rattle.std.proofs.Common.{◌≡◌, ◌∙◌, ℕ, zero, suc, ◌+◌, ◌-◌, ◌/◌, ◌%◌, ◌*◌, ◌<◌, ◌≤◌, ◌^◌, Bool, true, false, cond, List}
+use Rattle.std.proofs.Common.{[], ◌∷◌, ◌++◌, codes, length, take, drop, refl, sym, ap, subst, arith, one-add, append_assoc, Option, Some, None}
 use Rattle.std.specs.Prelude.{◌==◌, decimal, ℤ, pos, negsuc, neg_ℤ}
 use Rattle.std.specs.Char.{digit_value}
 use Rattle.std.specs.Fmt.{digit_glyph, digits, digits_onto, signed_decimal}
@@ -48,19 +49,25 @@ back_of (x ∷ a) e b =
     let next : suc (length a) + 1 ≡ suc (length a + 1) = omega arith in
     ap (λ (n : ℕ). drop n (x ∷ (a ++ e ∷ b))) next ∙ back_of a e b
 
-first_field : (field : List ℕ) (e : ℕ) (more : List ℕ) → IsField field → ends_field e ≡ true → (before_first ends_field (field ++ e ∷ more) ≡ field) × (after_first ends_field (field ++ e ∷ more) ≡ more)
+first_field : (field : List ℕ) (e : ℕ) (more : List ℕ) → IsField field → ends_field e ≡ true
+    → (before_first ends_field (field ++ e ∷ more) ≡ field) × (after_first ends_field (field ++ e ∷ more) ≡ more)
 first_field field e more f ends =
-    let place = field_place field e more f ends in
-    (ap (λ (n : ℕ). take n (field ++ e ∷ more)) place ∙ front_of field (e ∷ more), ap (λ (n : ℕ). drop (n + 1) (field ++ e ∷ more)) place ∙ back_of field e more)
+    let place = field_place field e more f ends in (
+      ap (λ (n : ℕ). take n (field ++ e ∷ more)) place ∙ front_of field (e ∷ more),
+      ap (λ (n : ℕ). drop (n + 1) (field ++ e ∷ more)) place ∙ back_of field e more,
+    )
 
 -- the first field that is left, and those after it
-pub field_left : (field : List ℕ) (fields : List (List ℕ)) (more : List ℕ) → IsField field → (before_first ends_field (left (field ∷ fields) more) ≡ field) × (after_first ends_field (left (field ∷ fields) more) ≡ left fields more)
+pub field_left : (field : List ℕ) (fields : List (List ℕ)) (more : List ℕ) → IsField field
+    → (before_first ends_field (left (field ∷ fields) more) ≡ field)
+    × (after_first ends_field (left (field ∷ fields) more) ≡ left fields more)
 field_left field [] more f = first_field field 10 more f refl
 field_left field (next ∷ fields) more f =
     let first = first_field field 32 ((next ++ behind fields) ++ more) f refl in
     (first.0, first.1 ∙ append_assoc next (behind fields) more)
 
-pub value_left : {A : Type 0} (value : List ℕ → Option A) (x : A) (field : List ℕ) (fields : List (List ℕ)) (more : List ℕ) → IsField field → value field ≡ Some x → read_value value (left (field ∷ fields) more) ≡ Some (x, left fields more)
+pub value_left : {A : Type 0} (value : List ℕ → Option A) (x : A) (field : List ℕ) (fields : List (List ℕ)) (more : List ℕ) → IsField field
+    → value field ≡ Some x → read_value value (left (field ∷ fields) more) ≡ Some (x, left fields more)
 value_left {A} value x field fields more f is =
     let first = field_left field fields more f in
     then_reads (value (before_first ends_field (left (field ∷ fields) more))) x _ _ (ap value first.0 ∙ is) (ap (λ (rest : List ℕ). Some (x, rest)) first.1)
@@ -101,8 +108,10 @@ number_again limit n small low =
     ∙ sym (number_written limit (decimal n) n (subst (IsNumeral 10) (sym plain) own.0) (sym (ap (digits_value 10) plain ∙ own.1)) small)
 
 -- a number that is left
-pub number_left : (limit n : ℕ) (fields : List (List ℕ)) (more : List ℕ) → n ≤ limit → limit < 2 ^ 64 → read_value (number_in limit) (left (decimal n ∷ fields) more) ≡ Some (n, left fields more)
-number_left limit n fields more small low = value_left (number_in limit) n (decimal n) fields more (decimal_field n (omega arith)) (number_again limit n small low)
+pub number_left : (limit n : ℕ) (fields : List (List ℕ)) (more : List ℕ) → n ≤ limit → limit < 2 ^ 64
+    → read_value (number_in limit) (left (decimal n ∷ fields) more) ≡ Some (n, left fields more)
+number_left limit n fields more small low = value_left (number_in limit) n (decimal n) fields more (decimal_field n (omega arith))
+    (number_again limit n small low)
 
 -- a signed number that is left
 pub signed_again : (z : ℤ) → mag z < 2 ^ 63 → signed_in (signed_decimal z) ≡ Some z
@@ -118,12 +127,16 @@ sixteenth n m h = omega arith
 -- the digits of a number below 16 ^ k are k at most
 hex_length : (j k n : ℕ) (acc : List ℕ) → n < 16 ^ suc k → length (digits_onto j 16 false n acc) ≤ suc k + length acc
 hex_length zero k n acc h = omega arith
-hex_length (suc j) k n acc h = elim (n / 16 == 0) as (λ v. n / 16 == 0 ≡ v → length (cond v (digit_glyph false (n % 16) ∷ acc) (digits_onto j 16 false (n / 16) (digit_glyph false (n % 16) ∷ acc))) ≤ suc k + length acc) [
-  | true ↦ λ e. omega arith
-  | false ↦ λ e. longer k h (eqb-false (n / 16) 0 e) (λ m. hex_length j m (n / 16) (digit_glyph false (n % 16) ∷ acc))
-] refl
+hex_length (suc j) k n acc h = elim (n / 16 == 0) as
+    (λ v. n / 16 == 0 ≡ v → length
+    (cond v (digit_glyph false (n % 16) ∷ acc) (digits_onto j 16 false (n / 16) (digit_glyph false (n % 16) ∷ acc))) ≤ suc k + length acc) [
+      | true ↦ λ e. omega arith
+      | false ↦ λ e. longer k h (eqb-false (n / 16) 0 e) (λ m. hex_length j m (n / 16) (digit_glyph false (n % 16) ∷ acc))
+    ] refl
   where
-    longer : (k : ℕ) → n < 16 ^ suc k → (n / 16 ≡ 0 → ⊥) → ((m : ℕ) → n / 16 < 16 ^ suc m → length (digits_onto j 16 false (n / 16) (digit_glyph false (n % 16) ∷ acc)) ≤ suc m + suc (length acc)) → length (digits_onto j 16 false (n / 16) (digit_glyph false (n % 16) ∷ acc)) ≤ suc k + length acc
+    longer : (k : ℕ) → n < 16 ^ suc k → (n / 16 ≡ 0 → ⊥)
+        → ((m : ℕ) → n / 16 < 16 ^ suc m → length (digits_onto j 16 false (n / 16) (digit_glyph false (n % 16) ∷ acc)) ≤ suc m + suc
+        (length acc)) → length (digits_onto j 16 false (n / 16) (digit_glyph false (n % 16) ∷ acc)) ≤ suc k + length acc
     longer zero h some more = absurd (some (omega arith))
     longer (suc k) h some more = let shorter = more k (sixteenth n (16 ^ suc k) (subst (λ (m : ℕ). n < m) (pow-succ' 16 (suc k)) h)) in omega (arith, shorter)
 

@@ -59,14 +59,17 @@ behind_same [] (y ∷ ys) r s f g h = absurd (differ 10 32 (omega arith) (ap (λ
 behind_same (x ∷ xs) [] r s f g h = absurd (differ 10 32 (omega arith) (sym (ap (λ (t : List ℕ). get_or t 0 0) h)))
 behind_same (x ∷ xs) (y ∷ ys) r s f g h =
     let rest : (x ++ behind xs) ++ r ≡ (y ++ behind ys) ++ s = ap (drop 1) h in
-    let one = field_same x y (behind xs ++ r) (behind ys ++ s) f.0 g.0 (behind_parts xs r) (behind_parts ys s) (sym (append_assoc x (behind xs) r) ∙ (rest ∙ append_assoc y (behind ys) s)) in
+    let one = field_same x y (behind xs ++ r) (behind ys ++ s) f.0 g.0 (behind_parts xs r) (behind_parts ys s)
+    (sym (append_assoc x (behind xs) r) ∙ (rest ∙ append_assoc y (behind ys) s)) in
     let more = behind_same xs ys r s f.1 g.1 one.1 in
     (cc (one.0, more.0), more.1)
 
 -- its word, its other fields, and what comes after it
-pub line_same : (w v : List ℕ) (xs ys : List (List ℕ)) (r s : List ℕ) → IsField w → IsField v → AreFields xs → AreFields ys → line w xs ++ r ≡ line v ys ++ s → (w ≡ v) × (xs ≡ ys) × (r ≡ s)
+pub line_same : (w v : List ℕ) (xs ys : List (List ℕ)) (r s : List ℕ) → IsField w → IsField v → AreFields xs → AreFields ys
+    → line w xs ++ r ≡ line v ys ++ s → (w ≡ v) × (xs ≡ ys) × (r ≡ s)
 line_same w v xs ys r s fw fv fx fy h =
-    let one = field_same w v (behind xs ++ r) (behind ys ++ s) fw fv (behind_parts xs r) (behind_parts ys s) (sym (append_assoc w (behind xs) r) ∙ (h ∙ append_assoc v (behind ys) s)) in
+    let one = field_same w v (behind xs ++ r) (behind ys ++ s) fw fv (behind_parts xs r) (behind_parts ys s)
+    (sym (append_assoc w (behind xs) r) ∙ (h ∙ append_assoc v (behind ys) s)) in
     let more = behind_same xs ys r s fx fy one.1 in
     (one.0, more.0, more.1)
 
@@ -75,7 +78,8 @@ digit_inside c h = grind (arith, nat_tests)
 
 digits_inside : (base : ℕ) (ds : List ℕ) → base ≤ 16 → AllDigits base ds → IsField ds
 digits_inside base [] low all = refl
-digits_inside base (c ∷ ds) low all = let small : digit_value c < 16 = omega (arith, all.0) in and_from (is_inside c) (list_all is_inside ds) (digit_inside c small) (digits_inside base ds low all.1)
+digits_inside base (c ∷ ds) low all = let small : digit_value c < 16 = omega (arith, all.0) in
+    and_from (is_inside c) (list_all is_inside ds) (digit_inside c small) (digits_inside base ds low all.1)
 
 pub decimal_field : (n : ℕ) → n < 2 ^ 64 → IsField (decimal n)
 decimal_field n h = digits_inside 10 (decimal n) (omega arith) (digits_is_IsNumeral 10 false (omega arith) (omega arith) n (omega arith)).0.1

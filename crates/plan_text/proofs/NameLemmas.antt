@@ -1,5 +1,6 @@
 -- A name of a row's directory is one field, and is read again.
-use Rattle.std.proofs.Common.{◌≡◌, ◌∙◌, ℕ, suc, zero, ◌<◌, Bool, true, ◌&&◌, not, cond, List, [], ◌∷◌, codes, refl, ap, subst, sym, arith, Some, None, inl, inr, ◌⊎◌}
+use Rattle.std.proofs.Common.{◌≡◌, ◌∙◌, ℕ, suc, zero, ◌<◌, Bool, true, ◌&&◌, not, cond, List, []}
+use Rattle.std.proofs.Common.{◌∷◌, codes, refl, ap, subst, sym, arith, Some, None, inl, inr, ◌⊎◌}
 use Rattle.std.specs.Prelude.{nat_lt, ◌==◌}
 use Rattle.std.specs.List.{list_all}
 use Rattle.std.specs.Str.{IsAscii, bytes_eq}
@@ -17,7 +18,8 @@ seen : (name : List ℕ) → IsRowName name → (name ≡ codes "/") ⊎ (list_a
 unfolding is_row_name
 seen name h = elim (or_cases (bytes_eq name (codes "/")) (is_name name) h) [
   | inl slash ↦ inl ((bytes_eq-Decides name (codes "/")).0 slash)
-  | inr is ↦ inr (and_parts (list_all is_name_byte name) (not (is_dots name)) (and_parts (has_name_length name) (list_all is_name_byte name && not (is_dots name)) is).1).0
+  | inr is ↦ inr (and_parts (list_all is_name_byte name) (not (is_dots name))
+      (and_parts (has_name_length name) (list_all is_name_byte name && not (is_dots name)) is).1).0
 ]
 
 bytes_inside : (name : List ℕ) → list_all is_name_byte name ≡ true → IsField name

@@ -1,5 +1,6 @@
 -- What `parse` says of the text of a number.
-use Rattle.std.proofs.Common.{◌≡◌, ◌∙◌, ℕ, suc, ◌<◌, ◌≤◌, ◌^◌, Bool, true, false, ◌&&◌, cond, List, [], ◌∷◌, length, refl, ap, subst, arith, Option, Some, None, Result, Ok, Err}
+use Rattle.std.proofs.Common.{◌≡◌, ◌∙◌, ℕ, suc, ◌<◌, ◌≤◌, ◌^◌, Bool, true, false, ◌&&◌, cond, List}
+use Rattle.std.proofs.Common.{[], ◌∷◌, length, refl, ap, subst, arith, Option, Some, None, Result, Ok, Err}
 use Rattle.std.specs.Prelude.{nat_lt}
 use Rattle.std.specs.Char.{digit_value}
 use Rattle.std.specs.List.{list_all}
@@ -36,10 +37,12 @@ guard_none true false x h = refl
 guard_none true true x h = absurd (h refl refl)
 
 -- a number within the limit is written
-pub number_written : (limit : ℕ) (text : List ℕ) (x : ℕ) → IsNumeral 10 (without_leading_plus text) → x ≡ digits_value 10 (without_leading_plus text) → x ≤ limit → Some x ≡ number_within limit text
+pub number_written : (limit : ℕ) (text : List ℕ) (x : ℕ) → IsNumeral 10 (without_leading_plus text)
+    → x ≡ digits_value 10 (without_leading_plus text) → x ≤ limit → Some x ≡ number_within limit text
 unfolding number_within
 number_written limit text x numeral value small =
-    ap Some value ∙ guard_some _ _ _ (numeral_tested _ numeral) (le-leb (digits_value 10 (without_leading_plus text)) limit (subst (λ n. n ≤ limit) value small))
+    ap Some value ∙ guard_some _ _ _ (numeral_tested _ numeral)
+    (le-leb (digits_value 10 (without_leading_plus text)) limit (subst (λ n. n ≤ limit) value small))
 
 module _ {E : Type 0} (limit : ℕ) (text : List ℕ) (r : Result ℕ E) (h : ParsesUnsigned 64 10 text r) where
   pub number_parsed : (x : ℕ) → r ≡ Ok x → x ≤ limit → Some x ≡ number_within limit text
@@ -54,7 +57,11 @@ module _ {E : Type 0} (limit : ℕ) (text : List ℕ) (r : Result ℕ E) (h : Pa
   pub number_refused : (e : E) → r ≡ Err e → limit < 2 ^ 64 → None ≡ number_within limit text
   unfolding number_within
   number_refused e is low =
-      guard_none _ _ _ (λ p q. OkIff-at_err r _ _ e h is (tested_numeral _ p, (let small : digits_value 10 (without_leading_plus text) ≤ limit = leb-true _ limit q in omega (arith, small, low))))
+      guard_none _ _ _ (λ p q. OkIff-at_err r _ _ e h is (
+        tested_numeral _ p,
+        (let small : digits_value 10 (without_leading_plus text) ≤ limit = leb-true _ limit q in
+            omega (arith, small, low)),
+      ))
 
 -- a field that is text, and one that isn't
 pub read_text : {A : Type 0} (read : List ℕ → Option A) (field : List ℕ) → IsUtf8 field → read field ≡ cond (is_utf8 field) (read field) None

@@ -1,5 +1,6 @@
 -- Each move keeps the rule of numbers.
-use Rattle.std.proofs.Common.{◌≡◌, ◌≢◌, ◌≤◌, ◌+◌, ◌==◌, ℕ, zero, suc, Bool, List, [], ◌∷◌, ◌++◌, set, cond, count_by, sum_by, true, false, true≢false, refl, sym, ap, ◌∙◌, subst, ⊎_elim, arith, eq-eqb, ne_eqb}
+use Rattle.std.proofs.Common.{◌≡◌, ◌≢◌, ◌≤◌, ◌+◌, ◌==◌, ℕ, zero, suc, Bool, List, [], ◌∷◌, ◌++◌, set, cond}
+use Rattle.std.proofs.Common.{count_by, sum_by, true, false, true≢false, refl, sym, ap, ◌∙◌, subst, ⊎_elim, arith, eq-eqb, ne_eqb}
 use Rattle.std.proofs.lemmas.List.Sums.{sum_by-append, sum_by-cons, sum_by_push}
 use mathlib.Core.Logic.{dite}
 use mathlib.Core.Option.{some, some-ne-none, some-injective}
@@ -31,7 +32,8 @@ led_set views id w token next mine others by u e y = ⊎_elim
 
 -- how often a number was given
 
-moved : (f : HolderState → ℕ) (views : List HolderState) (id : ℕ) (v w : HolderState) → get_elem? views id ≡ some v → sum_by f (set views id w) + f v ≡ sum_by f views + f w
+moved : (f : HolderState → ℕ) (views : List HolderState) (id : ℕ) (v w : HolderState) → get_elem? views id ≡ some v
+    → sum_by f (set views id w) + f v ≡ sum_by f views + f w
 moved f [] id v w e = absurd (some-ne-none v (sym e))
 moved f (x ∷ views) zero v w e =
     let a = sum_by-cons f w views in let b = sum_by-cons f x views in let c = ap f (some-injective x v e) in omega arith
@@ -103,8 +105,10 @@ hands id v number leads above s b here =
     let views = s.views in
     let mine = b.leader id v here leads in
     let next : b.next ≤ number = let m = mine.1 in omega arith in
-    let total : (k : ℕ) → sum_by (how_often k) (set views id (after_giving number v) ++ only (number ∷ []) ∷ []) ≡ sum_by (how_often k) views + how_often k (only (number ∷ []))
-    = λ k. let p = sum_by_push (how_often k) (set views id (after_giving number v)) (only (number ∷ [])) in let m = moved (how_often k) views id v (after_giving number v) here in omega arith in
+    let total : (k : ℕ) → sum_by (how_often k) (set views id (after_giving number v) ++ only (number ∷ []) ∷ [])
+    ≡ sum_by (how_often k) views + how_often k (only (number ∷ []))
+    = λ k. let p = sum_by_push (how_often k) (set views id (after_giving number v)) (only (number ∷ [])) in
+    let m = moved (how_often k) views id v (after_giving number v) here in omega arith in
     record {
       token = b.token;
       next = number + 1;
@@ -123,7 +127,8 @@ joins id v other w s b here apart there =
     let views = s.views in
     let mid = set views id (taken_in v w) in
     let total : (k : ℕ) → sum_by (how_often k) (set mid other (only [])) ≡ sum_by (how_often k) views
-    = λ k. let p = moved (how_often k) views id v (taken_in v w) here in let q = moved (how_often k) mid other w (only []) there in let j = often_in_both k v w in omega arith in
+    = λ k. let p = moved (how_often k) views id v (taken_in v w) here in let q = moved (how_often k) mid other w (only []) there in
+    let j = often_in_both k v w in omega arith in
     record {
       token = b.token;
       next = b.next;

@@ -1,5 +1,6 @@
 -- Each move keeps the rule.
-use Rattle.std.proofs.Common.{◌≡◌, ◌≢◌, ℕ, zero, suc, List, [], ◌∷◌, ◌++◌, set, true, false, true≢false, refl, sym, ap, ◌∙◌, subst, ⊎_elim, append-nil, append_assoc}
+use Rattle.std.proofs.Common.{◌≡◌, ◌≢◌, ℕ, zero, suc, List, [], ◌∷◌, ◌++◌, set, true}
+use Rattle.std.proofs.Common.{false, true≢false, refl, sym, ap, ◌∙◌, subst, ⊎_elim, append-nil, append_assoc}
 use mathlib.Core.List.{IsPrefix}
 use mathlib.Core.Option.{some, some-ne-none, some-injective}
 use lib.ListN.{get_elem?}
@@ -34,7 +35,8 @@ module _ {E : Type 0} where
   grows_on views id v longer b here leads more =
       let w = state true longer v.shown in
       let mine = b.whole id v here leads in
-      let on : (xs : List E) → IsPrefix xs b.log → IsPrefix xs longer = λ xs p. follows xs v.log longer (subst (λ (l : List E). IsPrefix xs l) (sym mine.1) p) more in
+      let on : (xs : List E) → IsPrefix xs b.log → IsPrefix xs longer =
+      λ xs p. follows xs v.log longer (subst (λ (l : List E). IsPrefix xs l) (sym mine.1) p) more in
       record {
         token = b.token;
         log = longer;
@@ -43,7 +45,8 @@ module _ {E : Type 0} where
             (λ (x : (by ≢ id) × (get_elem? views by ≡ some u)). absurd (x.0 ((b.whole by u x.1 y).0 ∙ sym mine.0)))
             (at_set views id by w u e);
         part = λ by u e. ⊎_elim
-            (λ (x : (by ≡ id) × (w ≡ u)). subst (λ (z : TokenState E). IsPrefix z.log longer × IsPrefix z.shown longer) x.1 (all longer, on v.shown (b.part id v here).1))
+            (λ (x : (by ≡ id) × (w ≡ u)). subst (λ (z : TokenState E). IsPrefix z.log longer × IsPrefix z.shown longer) x.1
+            (all longer, on v.shown (b.part id v here).1))
             (λ (x : (by ≢ id) × (get_elem? views by ≡ some u)). (on u.log (b.part by u x.1).0, on u.shown (b.part by u x.1).1))
             (at_set views id by w u e);
       }
@@ -65,7 +68,8 @@ module _ {E : Type 0} where
 
   -- a new token
   pub splits : (id : ℕ) (v : TokenState E) → Splits IsGrowingTable id v v (shown_of v)
-  splits id v s b here = subst (λ (vs : List (TokenState E)). IsGrowing (vs ++ shown_of v ∷ [])) (sym (set_again s.views id v here)) (one_more s.views id v b here)
+  splits id v s b here = subst (λ (vs : List (TokenState E)). IsGrowing (vs ++ shown_of v ∷ [])) (sym (set_again s.views id v here))
+      (one_more s.views id v b here)
 
   -- a token takes in another
   pub joins : (id : ℕ) (v : TokenState E) (other : ℕ) (w : TokenState E) → Joins IsGrowingTable id v other w (told v w) (state false [] [])
@@ -74,7 +78,8 @@ module _ {E : Type 0} where
       let one = told v w in
       let none : TokenState E = state false [] [] in
       let mid = set views id one in
-      let theirs : get_elem? views other ≡ some w = ⊎_elim (λ (t : (other ≡ id) × (one ≡ w)). absurd (apart t.0)) (λ (t : (other ≢ id) × (get_elem? views other ≡ some w)). t.1) (at_set views id other one w there) in
+      let theirs : get_elem? views other ≡ some w = ⊎_elim (λ (t : (other ≡ id) × (one ≡ w)). absurd (apart t.0))
+      (λ (t : (other ≢ id) × (get_elem? views other ≡ some w)). t.1) (at_set views id other one w there) in
       record {
         token = b.token;
         log = b.log;
@@ -89,7 +94,8 @@ module _ {E : Type 0} where
         part = λ by u e. ⊎_elim
             (λ (x : (by ≡ other) × (none ≡ u)). subst (λ (z : TokenState E). IsPrefix z.log b.log × IsPrefix z.shown b.log) x.1 ((b.log, refl), (b.log, refl)))
             (λ (x : (by ≢ other) × (get_elem? mid by ≡ some u)). ⊎_elim
-            (λ (z : (by ≡ id) × (one ≡ u)). subst (λ (q : TokenState E). IsPrefix q.log b.log × IsPrefix q.shown b.log) z.1 ((b.part id v here).0, (b.part other w theirs).0))
+            (λ (z : (by ≡ id) × (one ≡ u)). subst (λ (q : TokenState E). IsPrefix q.log b.log × IsPrefix q.shown b.log) z.1
+            ((b.part id v here).0, (b.part other w theirs).0))
             (λ (z : (by ≢ id) × (get_elem? views by ≡ some u)). b.part by u z.1)
             (at_set views id by one u x.1))
             (at_set mid other by none u e);

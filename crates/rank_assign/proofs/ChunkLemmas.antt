@@ -14,9 +14,6 @@ edge_rises rows first chunk k =
 module _
     (rows : List ProblemRow) (part : List ℕ) (count mid to : ℕ) (a b : List ℕ) (rise : mid ≤ to)
     (first : AreSummed rows part count 0 mid a) (second : AreSummed rows part count mid to b) where
-  same_size : length b ≡ length a
-  same_size = omega (arith, first.added.size, second.added.size)
-
   pub joined :
       (new : List ℕ) → length new ≡ length a
       → ((j : ℕ) → j < length a → slice_index new j ≡ slice_index a j + slice_index b j) → AreSummed rows part count 0 to new

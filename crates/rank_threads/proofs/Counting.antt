@@ -24,7 +24,8 @@ row_at xs k n d inside = on (k == d) refl
         let none : at xs d + 0 ≡ at xs d = omega arith in at_set_other xs k (at xs k + n) d other ∙ sym none
 
 -- a request that began
-pub counted_one : (limit n t : ℕ) (s : ShareData) (w : Work) (a : WorkAnswer) → length s.hits ≡ limit + limit → length s.pending ≡ limit + limit → length s.begun ≡ limit
+pub counted_one : (limit n t : ℕ) (s : ShareData) (w : Work) (a : WorkAnswer) → length s.hits ≡ limit + limit
+    → length s.pending ≡ limit + limit → length s.begun ≡ limit
     → a.ticket ≡ Some t → a.hits ≡ n
     → Counted limit s (w ∷ []) (a ∷ []) (after_hits (record s { begun = raised s.begun w.dir }) (entry w.dir w.kind) n)
 counted_one limit n t s w a lh lp lb ticket hits = record {
@@ -39,14 +40,16 @@ hits_on_more : (e : ℕ) (works : List Work) (answers : List WorkAnswer) (w : Wo
 hits_on_more e [] [] w a same = omega arith
 hits_on_more e [] (b ∷ answers) w a same = absurd (cc)
 hits_on_more e (v ∷ works) [] w a same = absurd (cc)
-hits_on_more e (v ∷ works) (b ∷ answers) w a same = let rest : length works ≡ length answers = omega arith in let more = hits_on_more e works answers w a rest in omega arith
+hits_on_more e (v ∷ works) (b ∷ answers) w a same = let rest : length works ≡ length answers = omega arith in
+    let more = hits_on_more e works answers w a rest in omega arith
 
 begun_on_more : (d : ℕ) (works : List Work) (answers : List WorkAnswer) (w : Work) (a : WorkAnswer) → length works ≡ length answers
     → begun_on d (works ++ w ∷ []) (answers ++ a ∷ []) ≡ begun_on d works answers + begun_on d (w ∷ []) (a ∷ [])
 begun_on_more d [] [] w a same = omega arith
 begun_on_more d [] (b ∷ answers) w a same = absurd (cc)
 begun_on_more d (v ∷ works) [] w a same = absurd (cc)
-begun_on_more d (v ∷ works) (b ∷ answers) w a same = let rest : length works ≡ length answers = omega arith in let e = begun_on_more d works answers w a rest in omega arith
+begun_on_more d (v ∷ works) (b ∷ answers) w a same = let rest : length works ≡ length answers = omega arith in
+    let e = begun_on_more d works answers w a rest in omega arith
 
 pub served_none : (limit : ℕ) (s : ShareData) → IsServed limit s [] [] s
 served_none limit s = record {
@@ -62,7 +65,8 @@ served_none limit s = record {
 
 -- one request more
 pub served_more : (limit : ℕ) (old mid new : ShareData) (works : List Work) (answers : List WorkAnswer) (w : Work) (a : WorkAnswer)
-    → IsServed limit old works answers mid → Fits w a → IsShort limit new w.dir w.kind a.refused → Counted limit mid (w ∷ []) (a ∷ []) new → IsServed limit old (works ++ w ∷ []) (answers ++ a ∷ []) new
+    → IsServed limit old works answers mid → Fits w a → IsShort limit new w.dir w.kind a.refused → Counted limit mid (w ∷ []) (a ∷ []) new
+    → IsServed limit old (works ++ w ∷ []) (answers ++ a ∷ []) new
 served_more limit old mid new works answers w a h fits short one =
     let same = zip_length Fits works answers h.fits in record {
       fits = zip_more Fits works answers w a h.fits fits;
@@ -71,7 +75,8 @@ served_more limit old mid new works answers w a h fits short one =
       counted = record {
         weight = one.weight ∙ h.counted.weight;
         hits = λ e inside. (let p = h.counted.hits e inside in let q = one.hits e inside in let more = hits_on_more e works answers w a same in omega arith);
-        pending = λ e inside. (let p = h.counted.pending e inside in let q = one.pending e inside in let more = hits_on_more e works answers w a same in omega arith);
+        pending = λ e inside. (let p = h.counted.pending e inside in let q = one.pending e inside in
+            let more = hits_on_more e works answers w a same in omega arith);
         begun = λ d inside. (let p = h.counted.begun d inside in let q = one.begun d inside in let e = begun_on_more d works answers w a same in omega arith);
       };
     }

@@ -1,5 +1,6 @@
 -- Ranks are asked from the last one on, and joined from the first one on.
-use Rattle.std.proofs.Common.{◌≡◌, ℕ, suc, List, [], ◌∷◌, ◌++◌, length, map, Vec, Global, refl, sym, ap, arith, ◌∙◌, subst, append-nil, append_assoc, Result, Ok, Err, inl, inr, ◌⊎◌}
+use Rattle.std.proofs.Common.{◌≡◌, ℕ, suc, List, [], ◌∷◌, ◌++◌, length, map, Vec, Global, refl, sym}
+use Rattle.std.proofs.Common.{ap, arith, ◌∙◌, subst, append-nil, append_assoc, Result, Ok, Err, inl, inr, ◌⊎◌}
 use Rattle.std.specs.Prelude.{IsOk}
 use mathlib.Core.List.{IsPrefix}
 use Rattle.mds_board.specs.declared.board_error.BoardError.{BoardError}
@@ -72,7 +73,13 @@ pub record AreAsked (scripts : List (Vec Work Global)) (hands : List Hand) (left
   pub asked_are : asked ≡ askings more_hands (map (λ (s : Vec Work Global). s.items) more)
 
 pub none_asked : (scripts : List (Vec Work Global)) (hands : List Hand) (asked : List Asking) → asked ≡ [] → AreAsked scripts hands scripts hands asked
-none_asked scripts hands asked none = record { more = []; more_hands = []; scripts_are = sym (append-nil scripts); hands_are = sym (append-nil hands); asked_are = none }
+none_asked scripts hands asked none = record {
+  more = [];
+  more_hands = [];
+  scripts_are = sym (append-nil scripts);
+  hands_are = sym (append-nil hands);
+  asked_are = none;
+}
 
 pub more_asked : (scripts : List (Vec Work Global)) (hands : List Hand) (left before : List (Vec Work Global)) (script : Vec Work Global)
     (left_hands rest : List Hand) (hand : Hand) (asked all : List Asking) → AreAsked scripts hands left left_hands asked
@@ -87,7 +94,8 @@ more_asked scripts hands left before script left_hands rest hand asked all h el 
 }
 
 pub all_asked : (scripts : List (Vec Work Global)) (hands : List Hand) (left : List (Vec Work Global)) (left_hands : List Hand) (asked : List Asking)
-    → AreAsked scripts hands left left_hands asked → length left ≡ 0 → length left_hands ≡ 0 → asked ≡ askings hands (map (λ (s : Vec Work Global). s.items) scripts)
+    → AreAsked scripts hands left left_hands asked → length left ≡ 0 → length left_hands ≡ 0
+    → asked ≡ askings hands (map (λ (s : Vec Work Global). s.items) scripts)
 all_asked scripts hands left left_hands asked h nl nh =
     let ws : scripts ≡ h.more = h.scripts_are ∙ ap (λ (l : List (Vec Work Global)). l ++ h.more) (none_of left nl) in
     let hs : hands ≡ h.more_hands = h.hands_are ∙ ap (λ (l : List Hand). l ++ h.more_hands) (none_of left_hands nh) in
@@ -141,7 +149,8 @@ pub record AreJoinedBut (limit : ℕ) (before : World) (log : List Entry) (hands
   pub answered : AreAnswered before log first_hands first_scripts answers after
   pub given : tickets ≡ all_tickets answers
 
-pub none_joined : (limit : ℕ) (before : World) (log : List Entry) (hands : List Hand) (scripts : List (List Work)) (asked : List Asking) → length hands ≡ length scripts
+pub none_joined : (limit : ℕ) (before : World) (log : List Entry) (hands : List Hand) (scripts : List (List Work)) (asked : List Asking)
+    → length hands ≡ length scripts
     → asked ≡ askings hands scripts → AreJoinedBut limit before log hands scripts asked [] [] []
 none_joined limit before log hands scripts asked e h = record {
   first_hands = [];
@@ -157,7 +166,8 @@ none_joined limit before log hands scripts asked e h = record {
   given = refl;
 }
 
-pub one_joined : (limit : ℕ) (before : World) (log of_rank longer : List Entry) (hands : List Hand) (scripts : List (List Work)) (asked rest : List Asking) (it : Asking)
+pub one_joined : (limit : ℕ) (before : World) (log of_rank longer : List Entry) (hands : List Hand) (scripts : List (List Work))
+    (asked rest : List Asking) (it : Asking)
     (answers : List (List WorkAnswer)) (given : List WorkAnswer) (after : List Hand) (mid last : Hand) (tickets mine all : List ℕ)
     → AreJoinedBut limit before log hands scripts asked answers after tickets → asked ≡ rest ++ it ∷ []
     → IsRankServed limit before of_rank it.hand it.script given mid mine → IsDeposited mid.share last.share → last.way ≡ mid.way
@@ -173,7 +183,9 @@ one_joined limit before log of_rank longer hands scripts asked rest it answers g
       first_scripts = h.first_scripts ++ it.script ∷ [];
       more_scripts = n.more_scripts;
       hands_are = h.hands_are ∙ (ap (λ (l : List Hand). h.first_hands ++ l) n.hands_are ∙ sym (append_assoc h.first_hands (it.hand ∷ []) n.more_hands));
-      scripts_are = h.scripts_are ∙ (ap (λ (l : List (List Work)). h.first_scripts ++ l) n.scripts_are ∙ sym (append_assoc h.first_scripts (it.script ∷ []) n.more_scripts));
+      scripts_are = h.scripts_are
+          ∙ (ap (λ (l : List (List Work)). h.first_scripts ++ l) n.scripts_are
+          ∙ sym (append_assoc h.first_scripts (it.script ∷ []) n.more_scripts));
       equal = n.equal;
       left = n.left;
       returned = rw (shares_last h.first_hands it.hand, shares_last after last)
@@ -184,7 +196,8 @@ one_joined limit before log of_rank longer hands scripts asked rest it answers g
       given = joint ∙ (ap (λ (l : List ℕ). l ++ mine) h.given ∙ (ap (λ (l : List ℕ). all_tickets answers ++ l) served.given ∙ sym (all_more answers given)));
     }
 
-pub all_joined : (limit : ℕ) (before : World) (log : List Entry) (shares : List ShareData) (ways : List Way) (scripts : List (List Work)) (asked : List Asking) (answers : List (List WorkAnswer))
+pub all_joined : (limit : ℕ) (before : World) (log : List Entry) (shares : List ShareData) (ways : List Way) (scripts : List (List Work))
+    (asked : List Asking) (answers : List (List WorkAnswer))
     (after : List ShareData) (later : List Way) (tickets : List ℕ) → length shares ≡ length ways → length after ≡ length later
     → AreJoinedBut limit before log (hands_of shares ways) scripts asked answers (hands_of after later) tickets → length asked ≡ 0
     → AreReturned limit shares scripts answers after × AreAnswered before log (hands_of shares ways) scripts answers (hands_of after later)
@@ -207,7 +220,8 @@ told_done before log (Ok done) h = tt
 told_done before log (Err error) h = absurd (cc)
 
 -- of two tellings, one is handed on
-pub either_told : (before : World) (log : List Entry) (first second told : Result Unit BoardError) → (told ≡ first) ⊎ (told ≡ second) → IsDepositTold before log first → IsDepositTold before log second
+pub either_told : (before : World) (log : List Entry) (first second told : Result Unit BoardError) → (told ≡ first) ⊎ (told ≡ second)
+    → IsDepositTold before log first → IsDepositTold before log second
     → IsDepositTold before log told
 either_told before log first second told (inl is) one two = subst (λ (r : Result Unit BoardError). IsDepositTold before log r) (sym is) one
 either_told before log first second told (inr is) one two = subst (λ (r : Result Unit BoardError). IsDepositTold before log r) (sym is) two

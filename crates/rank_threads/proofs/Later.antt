@@ -24,18 +24,24 @@ reply_later before log longer rank dir None (Some (error.Share e)) more h = h
 reply_later before log longer rank dir None (Some error.NoThread) more h = h
 reply_later before log longer rank dir None None more h = h
 
-published_later : (before : World) (log longer : List Entry) (dir asked : ℕ) → IsPrefix log longer → IsPublishedAt before log dir asked → IsPublishedAt before longer dir asked
+published_later : (before : World) (log longer : List Entry) (dir asked : ℕ) → IsPrefix log longer → IsPublishedAt before log dir asked
+    → IsPublishedAt before longer dir asked
 published_later before log longer dir asked more h =
     (h.0, record { board = h.1.board; stops = h.1.stops; went = h.1.went; kept = follows h.1.board.history log longer h.1.kept more; named = h.1.named }, h.2)
 
-pub asked_longer : (before : World) (log longer : List Entry) (old new : Way) (dir asked : ℕ) → IsPrefix log longer → IsAskedAt before log old new dir asked → IsAskedAt before longer old new dir asked
+pub asked_longer : (before : World) (log longer : List Entry) (old new : Way) (dir asked : ℕ) → IsPrefix log longer
+    → IsAskedAt before log old new dir asked → IsAskedAt before longer old new dir asked
 asked_longer before log longer (At rank) new dir asked more h = h
 asked_longer before log longer (ByMap old) new dir asked more (inl h) = inl h
 asked_longer before log longer (ByMap old) new dir asked more (inr h) = inr (published_later before log longer dir asked more h)
 
 answered_later : (before : World) (log longer : List Entry) (old new : Way) (work : Work) (a : WorkAnswer) → IsPrefix log longer
     → IsAnswered before log old new work a → IsAnswered before longer old new work a
-answered_later before log longer old new work a more h = (h.0, asked_longer before log longer old new work.dir h.0 more h.1, reply_later before log longer h.0 work.dir a.ticket a.refused more h.2)
+answered_later before log longer old new work a more h = (
+  h.0,
+  asked_longer before log longer old new work.dir h.0 more h.1,
+  reply_later before log longer h.0 work.dir a.ticket a.refused more h.2,
+)
 
 pub each_later : (before : World) (log longer : List Entry) (old new : Way) (works : List Work) (answers : List WorkAnswer) → IsPrefix log longer
     → AllZip (IsAnswered before log old new) works answers → AllZip (IsAnswered before longer old new) works answers
@@ -50,7 +56,8 @@ pub rank_later : (before : World) (log longer : List Entry) (old new : Way) (wor
 rank_later before log longer old new works answers more (inl each) = inl (each_later before log longer old new works answers more each)
 rank_later before log longer old new works answers more (inr none) = inr none
 
-pub all_later : (before : World) (log longer : List Entry) (hands : List Hand) (scripts : List (List Work)) (answers : List (List WorkAnswer)) (after : List Hand) → IsPrefix log longer
+pub all_later : (before : World) (log longer : List Entry) (hands : List Hand) (scripts : List (List Work))
+    (answers : List (List WorkAnswer)) (after : List Hand) → IsPrefix log longer
     → AreAnswered before log hands scripts answers after → AreAnswered before longer hands scripts answers after
 all_later before log longer [] [] [] [] more h = tt
 all_later before log longer (x ∷ hands) (w ∷ scripts) (a ∷ answers) (y ∷ after) more h =
@@ -62,11 +69,13 @@ all_later before log longer (x ∷ hands) [] answers after more h = absurd h
 all_later before log longer (x ∷ hands) (w ∷ scripts) [] after more h = absurd h
 all_later before log longer (x ∷ hands) (w ∷ scripts) (a ∷ answers) [] more h = absurd h
 
-pub deposit_later : (before : World) (log longer : List Entry) (deposited : Result Unit BoardError) → IsPrefix log longer → IsDepositTold before log deposited → IsDepositTold before longer deposited
+pub deposit_later : (before : World) (log longer : List Entry) (deposited : Result Unit BoardError) → IsPrefix log longer
+    → IsDepositTold before log deposited → IsDepositTold before longer deposited
 deposit_later before log longer (Ok done) more h = tt
 deposit_later before log longer (Err e) more h = (h.0, met_later before log longer _ e more h.1)
 
-pub served_later : (limit : ℕ) (before : World) (log longer : List Entry) (shares : List ShareData) (ways : List Way) (scripts : List (List Work)) (answers : List (List WorkAnswer)) (after : List ShareData)
+pub served_later : (limit : ℕ) (before : World) (log longer : List Entry) (shares : List ShareData) (ways : List Way)
+    (scripts : List (List Work)) (answers : List (List WorkAnswer)) (after : List ShareData)
     (later : List Way) (deposited : Result Unit BoardError) → IsPrefix log longer → AreServed limit before log shares ways scripts answers after later deposited
     → AreServed limit before longer shares ways scripts answers after later deposited
 served_later limit before log longer shares ways scripts answers after later deposited more h = record {

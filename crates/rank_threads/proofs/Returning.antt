@@ -1,5 +1,6 @@
 -- Shares come back in rank order.
-use Rattle.std.proofs.Common.{◌≡◌, ℕ, suc, ◌+◌, ◌<◌, ◌≤◌, Option, Some, None, List, [], ◌∷◌, ◌++◌, length, Vec, Global, refl, sym, ap, arith, ◌∙◌, subst, inl, inr}
+use Rattle.std.proofs.Common.{◌≡◌, ℕ, suc, ◌+◌, ◌<◌, ◌≤◌, Option, Some, None, List, [], ◌∷◌}
+use Rattle.std.proofs.Common.{◌++◌, length, Vec, Global, refl, sym, ap, arith, ◌∙◌, subst, inl, inr}
 use Rattle.std.specs.List.{All, AllZip}
 use Rattle.std.proofs.lemmas.List.Elements.{All-push}
 use Rattle.heat_ledger.specs.declared.hit_error.HitError.TheVariants as hit
@@ -23,7 +24,8 @@ entry_inside limit dir Read inside = omega arith
 entry_inside limit dir Write inside = omega arith
 
 -- a share that counts no less is as full
-pub short_stays : (limit : ℕ) (mid new : ShareData) (dir : ℕ) (kind : Kind) (refused : Option WorkError) → ((e : ℕ) → e < limit + limit → at mid.hits e ≤ at new.hits e)
+pub short_stays : (limit : ℕ) (mid new : ShareData) (dir : ℕ) (kind : Kind) (refused : Option WorkError)
+    → ((e : ℕ) → e < limit + limit → at mid.hits e ≤ at new.hits e)
     → IsShort limit mid dir kind refused → IsShort limit new dir kind refused
 short_stays limit mid new dir kind None more h = tt
 short_stays limit mid new dir kind (Some (error.Board e)) more h = tt
@@ -32,18 +34,22 @@ short_stays limit mid new dir kind (Some (error.Share hit.NoDir)) more h = h
 short_stays limit mid new dir kind (Some (error.Share hit.ShareFull)) more h =
     let grows = more (entry dir kind) (entry_inside limit dir kind h.0) in let full = h.1 in (h.0, omega (arith, grows, full))
 
-pub all_short_stay : (limit : ℕ) (mid new : ShareData) (works : List Work) (answers : List WorkAnswer) → ((e : ℕ) → e < limit + limit → at mid.hits e ≤ at new.hits e)
+pub all_short_stay : (limit : ℕ) (mid new : ShareData) (works : List Work) (answers : List WorkAnswer)
+    → ((e : ℕ) → e < limit + limit → at mid.hits e ≤ at new.hits e)
     → AreShort limit mid works answers → AreShort limit new works answers
 all_short_stay limit mid new [] [] more h = tt
 all_short_stay limit mid new [] (a ∷ answers) more h = absurd h
 all_short_stay limit mid new (w ∷ works) [] more h = absurd h
-all_short_stay limit mid new (w ∷ works) (a ∷ answers) more h = (short_stays limit mid new w.dir w.kind a.refused more h.0, all_short_stay limit mid new works answers more h.1)
+all_short_stay limit mid new (w ∷ works) (a ∷ answers) more h =
+    (short_stays limit mid new w.dir w.kind a.refused more h.0, all_short_stay limit mid new works answers more h.1)
 
-pub returned : (limit : ℕ) (old mid new : ShareData) (works : List Work) (answers : List WorkAnswer) → IsServed limit old works answers mid → IsDeposited mid new
+pub returned : (limit : ℕ) (old mid new : ShareData) (works : List Work) (answers : List WorkAnswer) → IsServed limit old works answers mid
+    → IsDeposited mid new
     → IsReturned limit old works answers new
 returned limit old mid new works answers h d = record {
   fits = h.fits;
-  short = all_short_stay limit mid new works answers (λ k inside. (let same : at new.hits k ≡ at mid.hits k = ap (λ (row : List ℕ). at row k) d.0.0 in omega arith)) h.short;
+  short = all_short_stay limit mid new works answers
+      (λ k inside. (let same : at new.hits k ≡ at mid.hits k = ap (λ (row : List ℕ). at row k) d.0.0 in omega arith)) h.short;
   weight = d.0.2 ∙ h.counted.weight;
   hits = λ k inside. ap (λ (row : List ℕ). at row k) d.0.0 ∙ h.counted.hits k inside;
   begun = λ k inside. ap (λ (row : List ℕ). at row k) d.0.1 ∙ h.counted.begun k inside;
@@ -54,7 +60,8 @@ returned limit old mid new works answers h d = record {
 }
 
 pub returned_last : (limit : ℕ) (olds : List ShareData) (scripts : List (List Work)) (answers : List (List WorkAnswer)) (news : List ShareData)
-    (old : ShareData) (script : List Work) (given : List WorkAnswer) (new : ShareData) → AreReturned limit olds scripts answers news → IsReturned limit old script given new
+    (old : ShareData) (script : List Work) (given : List WorkAnswer) (new : ShareData) → AreReturned limit olds scripts answers news
+    → IsReturned limit old script given new
     → AreReturned limit (olds ++ old ∷ []) (scripts ++ script ∷ []) (answers ++ given ∷ []) (news ++ new ∷ [])
 returned_last limit [] [] [] [] old script given new all last = (last, tt)
 returned_last limit [] [] [] (n ∷ news) old script given new all last = absurd all
@@ -78,10 +85,13 @@ module _ {A B : Type 0} (R : A → B → Type 0) where
 pub rooms_last : (scripts before : List (Vec Work Global)) (script : Vec Work Global) (rooms rest : List (Vec WorkAnswer Global)) (room : Vec WorkAnswer Global)
     → scripts ≡ before ++ script ∷ [] → rooms ≡ rest ++ room ∷ [] → AllZip IsRoomFor scripts rooms → AllZip IsRoomFor before rest × IsRoomFor script room
 rooms_last scripts before script rooms rest room es er all =
-    zip_last IsRoomFor before rest script room (subst (λ (l : List (Vec WorkAnswer Global)). AllZip IsRoomFor (before ++ script ∷ []) l) er (subst (λ (l : List (Vec Work Global)). AllZip IsRoomFor l rooms) es all))
+    zip_last IsRoomFor before rest script room
+    (subst (λ (l : List (Vec WorkAnswer Global)). AllZip IsRoomFor (before ++ script ∷ []) l) er
+    (subst (λ (l : List (Vec Work Global)). AllZip IsRoomFor l rooms) es all))
 
 pub clean_last : (news back : List ShareData) (new : ShareData) → back ≡ news ++ new ∷ [] → All (λ s. IsClean s) news → IsClean new → All (λ s. IsClean s) back
-clean_last news back new is all last = subst (λ (l : List ShareData). All (λ s. IsClean s) l) (sym is) (All-push (λ (s : ShareData). IsClean s) news new all last)
+clean_last news back new is all last = subst (λ (l : List ShareData). All (λ s. IsClean s) l) (sym is)
+    (All-push (λ (s : ShareData). IsClean s) news new all last)
 
 module _ {A B : Type 0} (R : A → B → Type 0) where
   pub zip_more : (xs : List A) (ys : List B) (x : A) (y : B) → AllZip R xs ys → R x y → AllZip R (xs ++ x ∷ []) (ys ++ y ∷ [])

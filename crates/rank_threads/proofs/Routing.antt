@@ -1,5 +1,6 @@
 -- The rank that a request is asked at, while the thread's way to find ranks goes on.
-use Rattle.std.proofs.Common.{◌≡◌, ◌≢◌, ℕ, ◌+◌, zero, suc, List, [], ◌∷◌, ◌++◌, length, Option, Some, None, Result, refl, sym, ap, ◌∙◌, subst, inl, inr, append-nil, append_assoc, arith}
+use Rattle.std.proofs.Common.{◌≡◌, ◌≢◌, ℕ, ◌+◌, zero, suc, List, [], ◌∷◌, ◌++◌, length, Option, Some}
+use Rattle.std.proofs.Common.{None, Result, refl, sym, ap, ◌∙◌, subst, inl, inr, append-nil, append_assoc, arith}
 use Rattle.std.specs.List.{AllZip}
 use mathlib.Core.List.{IsPrefix}
 use Rattle.authority_map.specs.Answer.{found_of}
@@ -39,7 +40,8 @@ found_later (At r) (ByMap mid) new dir found k h = absurd h
 found_later (ByMap old) (At s) new dir found k h = absurd h
 found_later (ByMap old) (ByMap mid) (At t) dir found k h = absurd k
 
-asked_later : (before : World) (log : List Entry) (old mid new : Way) (dir asked : ℕ) → HoldsAsMuch mid new → IsAskedAt before log old mid dir asked → IsAskedAt before log old new dir asked
+asked_later : (before : World) (log : List Entry) (old mid new : Way) (dir asked : ℕ) → HoldsAsMuch mid new
+    → IsAskedAt before log old mid dir asked → IsAskedAt before log old new dir asked
 asked_later before log (At r) mid new dir asked k h = found_later (At r) mid new dir asked k h
 asked_later before log (ByMap old) mid new dir asked k (inl h) = inl (found_later (ByMap old) mid new dir asked k h)
 asked_later before log (ByMap old) mid new dir asked k (inr h) = inr h
@@ -53,14 +55,16 @@ found_since (At r) (ByMap mid) new dir found k h = absurd k
 found_since (ByMap old) (At s) new dir found k h = absurd k
 found_since (ByMap old) (ByMap mid) (At t) dir found k h = absurd h
 
-asked_since : (before : World) (log : List Entry) (old mid new : Way) (dir asked : ℕ) → HoldsAsMuch old mid → IsAskedAt before log mid new dir asked → IsAskedAt before log old new dir asked
+asked_since : (before : World) (log : List Entry) (old mid new : Way) (dir asked : ℕ) → HoldsAsMuch old mid
+    → IsAskedAt before log mid new dir asked → IsAskedAt before log old new dir asked
 asked_since before log (At r) (At s) new dir asked k h = found_since (At r) (At s) new dir asked k h
 asked_since before log (ByMap old) (ByMap mid) new dir asked k (inl h) = inl (found_since (ByMap old) (ByMap mid) new dir asked k h)
 asked_since before log (ByMap old) (ByMap mid) new dir asked k (inr h) = inr h
 asked_since before log (At r) (ByMap mid) new dir asked k h = absurd k
 asked_since before log (ByMap old) (At s) new dir asked k h = absurd k
 
-pub one_since : (before : World) (log : List Entry) (old mid new : Way) (w : Work) (a : WorkAnswer) → HoldsAsMuch old mid → IsAnswered before log mid new w a → IsAnswered before log old new w a
+pub one_since : (before : World) (log : List Entry) (old mid new : Way) (w : Work) (a : WorkAnswer) → HoldsAsMuch old mid
+    → IsAnswered before log mid new w a → IsAnswered before log old new w a
 one_since before log old mid new w a k h = (h.0, asked_since before log old mid new w.dir h.0 k h.1, h.2)
 
 pub each_held : (before : World) (log : List Entry) (old mid new : Way) (works : List Work) (answers : List WorkAnswer) → HoldsAsMuch mid new
@@ -93,8 +97,10 @@ own_after : (rank : ℕ) (w : Way) → HoldsAsMuch (At rank) w → w ≡ At rank
 own_after rank (At same) h = ap (λ (r : ℕ). At r) h
 own_after rank (ByMap ops) h = absurd h
 
-own_later : (before : World) (log : List Entry) (rank n : ℕ) (shares : List ShareData) (scripts : List (List Work)) (answers : List (List WorkAnswer)) (after : List ShareData) (later : List Way)
-    → length shares ≡ n → AreAnswered before log (hands_of shares (own_ranks rank n)) scripts answers (hands_of after later) → hands_of after later ≡ hands_of after (own_ranks rank n)
+own_later : (before : World) (log : List Entry) (rank n : ℕ) (shares : List ShareData) (scripts : List (List Work))
+    (answers : List (List WorkAnswer)) (after : List ShareData) (later : List Way)
+    → length shares ≡ n → AreAnswered before log (hands_of shares (own_ranks rank n)) scripts answers (hands_of after later)
+    → hands_of after later ≡ hands_of after (own_ranks rank n)
 own_later before log rank zero [] [] [] [] later el h = refl
 own_later before log rank zero [] [] [] (t ∷ after) [] el h = refl
 own_later before log rank zero [] [] [] (t ∷ after) (v ∷ later) el h = absurd h
@@ -110,12 +116,14 @@ own_later before log rank (suc n) (s ∷ shares) (w ∷ scripts) [] after later 
 own_later before log rank (suc n) (s ∷ shares) (w ∷ scripts) (a ∷ answers) [] later el h = absurd h
 own_later before log rank (suc n) (s ∷ shares) (w ∷ scripts) (a ∷ answers) (t ∷ after) [] el h = absurd h
 
-pub served_own : (limit : ℕ) (before : World) (log : List Entry) (n : ℕ) (shares : List ShareData) (scripts : List (List Work)) (answers : List (List WorkAnswer)) (after : List ShareData) (later : List Way)
+pub served_own : (limit : ℕ) (before : World) (log : List Entry) (n : ℕ) (shares : List ShareData) (scripts : List (List Work))
+    (answers : List (List WorkAnswer)) (after : List ShareData) (later : List Way)
     (deposited : Result Unit BoardError) → length shares ≡ n → AreServed limit before log shares (own_ranks 0 n) scripts answers after later deposited
     → AreServed limit before log shares (own_ranks 0 n) scripts answers after (own_ranks 0 n) deposited
 served_own limit before log n shares scripts answers after later deposited long h = record {
   returned = h.returned;
-  answered = subst (λ (l : List Hand). AreAnswered before log (hands_of shares (own_ranks 0 n)) scripts answers l) (own_later before log 0 n shares scripts answers after later long h.answered) h.answered;
+  answered = subst (λ (l : List Hand). AreAnswered before log (hands_of shares (own_ranks 0 n)) scripts answers l)
+      (own_later before log 0 n shares scripts answers after later long h.answered) h.answered;
   apart = h.apart;
   clean = h.clean;
   told = h.told;

@@ -1,5 +1,6 @@
 -- The stops of a phase, round by round and one by one.
-use Rattle.std.proofs.Common.{◌≡◌, ◌≤◌, ◌<◌, ◌≢◌, ◌+◌, ◌⊎◌, ℕ, zero, suc, List, [], ◌∷◌, length, get_or, Result, Ok, Err, inl, inr, refl, sym, ap, ◌∙◌, subst, arith}
+use Rattle.std.proofs.Common.{◌≡◌, ◌≤◌, ◌<◌, ◌≢◌, ◌+◌, ◌⊎◌, ℕ, zero, suc, List, [], ◌∷◌, length}
+use Rattle.std.proofs.Common.{get_or, Result, Ok, Err, inl, inr, refl, sym, ap, ◌∙◌, subst, arith}
 use Rattle.std.specs.Prelude.{IfErr, OnOk}
 use Rattle.std.specs.List.{Contains}
 use mathlib.Core.List.{IsPrefix}
@@ -25,7 +26,8 @@ pub met_now : (before : World) (log : List Entry) (rank : ℕ) (old stopped told
 met_now before log rank old stopped (Ok done) either met = tt
 met_now before log rank old stopped (Err e) (inl same) met = inl (sym same)
 met_now before log rank old (Ok done) (Err e) (inr same) met = absurd (cc)
-met_now before log rank old (Err x) (Err e) (inr same) met = let is : x ≡ e = cc in inr (subst (λ (y : BoardError). IsMet before log (Step (Stop rank)) y) is met)
+met_now before log rank old (Err x) (Err e) (inr same) met = let is : x ≡ e = cc in
+    inr (subst (λ (y : BoardError). IsMet before log (Step (Stop rank)) y) is met)
 
 -- one of the rounds so far, or the next one where the stop is one of the first
 abbrev pub IsDue : ℕ → ℕ → ℕ → RankStop → Type 0
@@ -54,18 +56,22 @@ get_any [] i d e l = absurd (omega arith)
 get_any (s ∷ stops) zero d e l = refl
 get_any (s ∷ stops) (suc i) d e l = get_any stops i d e (omega arith)
 
-met_after : (before : World) (log longer : List Entry) (stops : List RankStop) (rank : ℕ) (told next : Result Unit BoardError) → IsPrefix log longer → Contains (ranks_of stops) rank
+met_after : (before : World) (log longer : List Entry) (stops : List RankStop) (rank : ℕ) (told next : Result Unit BoardError)
+    → IsPrefix log longer → Contains (ranks_of stops) rank
     → IfErr next (λ e. (told ≡ next) ⊎ IsMet before longer (Step (Stop rank)) e) → IsMetOf before log stops told → IsMetOf before longer stops next
 met_after before log longer stops rank told (Ok done) more inside is h = tt
-met_after before log longer stops rank told (Err e) more inside (inl same) h = met_more before log longer stops (Err e) more (subst (λ (r : Result Unit BoardError). IsMetOf before log stops r) same h)
+met_after before log longer stops rank told (Err e) more inside (inl same) h =
+    met_more before log longer stops (Err e) more (subst (λ (r : Result Unit BoardError). IsMetOf before log stops r) same h)
 met_after before log longer stops rank told (Err e) more inside (inr met) h = (rank, inside, met)
 
 -- a stop whose round this is
-pub one_more : (begun at : ℕ) (before : World) (log longer : List Entry) (stops : List RankStop) (told next : Result Unit BoardError) (stop : RankStop) → IsPrefix log longer
+pub one_more : (begun at : ℕ) (before : World) (log longer : List Entry) (stops : List RankStop) (told next : Result Unit BoardError)
+    (stop : RankStop) → IsPrefix log longer
     → ((e : BoardError) → IsToldWith told e → IsToldWith next e) → stop ≡ get_or stops at stop → Contains (ranks_of stops) stop.rank
     → IsStopTold before longer next stop.rank → IfErr next (λ e. (told ≡ next) ⊎ IsMet before longer (Step (Stop stop.rank)) e)
     → AreSoFar begun at before log stops told → AreSoFar begun (at + 1) before longer stops next
-one_more begun at before log longer stops told next stop more kept is inside this met h = record { each = one; met = met_after before log longer stops stop.rank told next more inside met h.met }
+one_more begun at before log longer stops told next stop more kept is inside this met h =
+    record { each = one; met = met_after before log longer stops stop.rank told next more inside met h.met }
   where
     one : (i : ℕ) (d : RankStop) → i < length stops → IsDue begun (at + 1) i (get_or stops i d) → IsStopTold before longer next (get_or stops i d).rank
     one i d l (first, inl few) = told_more before log longer told next (get_or stops i d).rank more kept (h.each i d l (first, inl few))
@@ -78,7 +84,8 @@ one_more begun at before log longer stops told next stop more kept is inside thi
         ]
 
 -- a stop of another round
-pub passed_over : (begun at : ℕ) (before : World) (log : List Entry) (stops : List RankStop) (told : Result Unit BoardError) (stop : RankStop) → stop ≡ get_or stops at stop
+pub passed_over : (begun at : ℕ) (before : World) (log : List Entry) (stops : List RankStop) (told : Result Unit BoardError)
+    (stop : RankStop) → stop ≡ get_or stops at stop
     → stop.round ≢ begun + 1 → AreSoFar begun at before log stops told → AreSoFar begun (at + 1) before log stops told
 passed_over begun at before log stops told stop is other h = record { each = one; met = h.met }
   where

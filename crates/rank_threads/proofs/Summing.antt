@@ -12,8 +12,10 @@ use Rattle.rank_threads.specs.Serving.{AreReturned, IsReturned, begun_on, hits_o
 use Rattle.rank_threads.specs.Totals.{RoseByAnswers, over_ranks}
 
 -- where each share rises by what its rank's requests and answers come to, so do all together
-pub sums_rise : (limit : ℕ) (f : ShareData → ℕ) (g : List Work → List WorkAnswer → ℕ) → ((s : ShareData) (w : List Work) (a : List WorkAnswer) (t : ShareData) → IsReturned limit s w a t → f t ≡ f s + g w a)
-    → (olds : List ShareData) (scripts : List (List Work)) (answers : List (List WorkAnswer)) (news : List ShareData) → AreReturned limit olds scripts answers news
+pub sums_rise : (limit : ℕ) (f : ShareData → ℕ) (g : List Work → List WorkAnswer → ℕ)
+    → ((s : ShareData) (w : List Work) (a : List WorkAnswer) (t : ShareData) → IsReturned limit s w a t → f t ≡ f s + g w a)
+    → (olds : List ShareData) (scripts : List (List Work)) (answers : List (List WorkAnswer)) (news : List ShareData)
+    → AreReturned limit olds scripts answers news
     → sum_by f news ≡ sum_by f olds + over_ranks g scripts answers
 sums_rise limit f g rises [] [] [] [] h = refl
 sums_rise limit f g rises (s ∷ olds) (w ∷ scripts) (a ∷ answers) (t ∷ news) h =
@@ -29,7 +31,8 @@ sums_rise limit f g rises (s ∷ olds) (w ∷ scripts) [] news h = absurd h
 sums_rise limit f g rises (s ∷ olds) (w ∷ scripts) (a ∷ answers) [] h = absurd h
 
 -- the weights stay
-pub same_weight : (limit : ℕ) (olds : List ShareData) (scripts : List (List Work)) (answers : List (List WorkAnswer)) (news : List ShareData) → AreReturned limit olds scripts answers news
+pub same_weight : (limit : ℕ) (olds : List ShareData) (scripts : List (List Work)) (answers : List (List WorkAnswer))
+    (news : List ShareData) → AreReturned limit olds scripts answers news
     → weight_of news ≡ weight_of olds
 same_weight limit [] [] [] [] h = refl
 same_weight limit (s ∷ olds) (w ∷ scripts) (a ∷ answers) (t ∷ news) h =
@@ -46,7 +49,8 @@ same_weight limit (s ∷ olds) (w ∷ scripts) (a ∷ answers) [] h = absurd h
 
 -- what a phase leaves to a caller that has all shares
 
-pub whole_after : (r x : Bool) (stops : List ℕ) (limit : ℕ) (old new : World) (olds : List ShareData) (scripts : List (List Work)) (answers : List (List WorkAnswer)) (news : List ShareData)
+pub whole_after : (r x : Bool) (stops : List ℕ) (limit : ℕ) (old new : World) (olds : List ShareData) (scripts : List (List Work))
+    (answers : List (List WorkAnswer)) (news : List ShareData)
     → WentOnWithStops r x stops old new
     → AreReturned limit olds scripts answers news → weight_of olds ≡ old.shares → weight_of news ≡ new.shares
 whole_after r x stops limit old new olds scripts answers news went h whole = same_weight limit olds scripts answers news h ∙ (whole ∙ sym went.same_book.1)

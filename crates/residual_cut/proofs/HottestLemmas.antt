@@ -1,5 +1,7 @@
 -- The hottest children of a row, as they are met and as they are cut.
-use Rattle.std.proofs.Common.{◌≡◌, ◌≢◌, ◌∙◌, ℕ, zero, suc, ◌+◌, ◌-◌, ◌<◌, ◌≤◌, Bool, true, false, cond, ◌&&◌, not, eqb, ltb, List, [], ◌∷◌, ◌++◌, take, drop, length, length-append, All, get_or, nat_cmp, is_lt, IsPermutation, refl, ap, sym, arith, ⊎_elim, subst}
+use Rattle.std.proofs.Common.{◌≡◌, ◌≢◌, ◌∙◌, ℕ, zero, suc, ◌+◌, ◌-◌, ◌<◌, ◌≤◌, Bool, true, false}
+use Rattle.std.proofs.Common.{cond, ◌&&◌, not, eqb, ltb, List, [], ◌∷◌, ◌++◌, take, drop, length, length-append}
+use Rattle.std.proofs.Common.{All, get_or, nat_cmp, is_lt, IsPermutation, refl, ap, sym, arith, ⊎_elim, subst}
 use Rattle.std.proofs.lemmas.Bool.{cases_Bool, cases_eq, cases_lt, and_parts, ltb-true, not-true, eq-eqb, ne_eqb, false≢true}
 use Rattle.std.proofs.lemmas.List.Sums.{sum_by_push, sum_by-append}
 use Rattle.std.proofs.lemmas.List.Elements.{All-push, All-cons, All-nil, All-head, All-tail, All-from_recursion, All-take, All-drop}

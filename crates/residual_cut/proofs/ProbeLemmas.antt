@@ -1,5 +1,7 @@
 -- The walk that keeps only what is left of each subtree: it is that of a table which nobody keeps.
-use Rattle.std.proofs.Common.{◌≡◌, ◌≢◌, ◌∙◌, ℕ, ◌+◌, ◌-◌, ◌<◌, ◌≤◌, ◌^◌, IsPermutation, true, false, cond, ◌&&◌, eqb, ltb, List, ◌∷◌, length, slice_index_or, set, map, max, refl, ap, sym, subst, arith, ⊎_elim, get_or-set_other, get_or-set_same, length-set, suc, zero, slice_index}
+use Rattle.std.proofs.Common.{◌≡◌, ◌≢◌, ◌∙◌, ℕ, ◌+◌, ◌-◌, ◌<◌, ◌≤◌, ◌^◌, IsPermutation, true, false}
+use Rattle.std.proofs.Common.{cond, ◌&&◌, eqb, ltb, List, ◌∷◌, length, slice_index_or, set, map, max, refl}
+use Rattle.std.proofs.Common.{ap, sym, subst, arith, ⊎_elim, get_or-set_other, get_or-set_same, length-set, suc, zero, slice_index}
 use Rattle.std.proofs.lemmas.Bool.{cases_Bool, cases_eq, cases_lt, and_from, and_right, lt-ltb, le-ltb, eqb-true, eq-eqb, ne_eqb, false≢true, or_cases}
 use Rattle.mds_types.specs.declared.problem.ProblemRow.{ProblemRow}
 use Rattle.mds_types.specs.declared.cut_proof.Row.{Row}
@@ -270,7 +272,14 @@ module _ (rows : List ProblemRow) (forest : IsForest rows) (heat rest rest2 : �
           rw this (omega (arith, with_cut.hottest, table_rest_other x.row.0 apart_x, pop.rest_is)))
           (λ (else : j ≢ x.row.0).
           let was = is.tops j l (sym (table_cut_other j else) ∙ cut) in
-          ⊎_elim (λ (same : j ≡ i). omega (arith, with_cut.hottest, was, ap (rest_at (table_with_cut is.table i x)) same, ap (rest_at is.table) same, table_rest_here))
+          ⊎_elim (λ (same : j ≡ i). omega (
+            arith,
+            with_cut.hottest,
+            was,
+            ap (rest_at (table_with_cut is.table i x)) same,
+            ap (rest_at is.table) same,
+            table_rest_here,
+          ))
           (λ (apart : j ≢ i). omega (arith, with_cut.hottest, was, table_rest_other j apart))
           (cases_eq j i))
           (cases_eq j x.row.0);

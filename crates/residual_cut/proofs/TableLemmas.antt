@@ -1,5 +1,6 @@
 -- Where the walk starts, where it ends, and what it shows of divisions within the bound.
-use Rattle.std.proofs.Common.{◌≡◌, ◌≢◌, ◌∙◌, ℕ, zero, suc, ◌+◌, ◌-◌, ◌*◌, ◌<◌, ◌≤◌, ◌^◌, Bool, true, false, cond, ◌&&◌, leb, List, length, slice_index_or, get_or, map, refl, ap, sym, arith, ⊎_elim}
+use Rattle.std.proofs.Common.{◌≡◌, ◌≢◌, ◌∙◌, ℕ, zero, suc, ◌+◌, ◌-◌, ◌*◌, ◌<◌, ◌≤◌, ◌^◌, Bool, true}
+use Rattle.std.proofs.Common.{false, cond, ◌&&◌, leb, List, length, slice_index_or, get_or, map, refl, ap, sym, arith, ⊎_elim}
 use Rattle.std.proofs.lemmas.Bool.{cases_Bool, cases_eq, cases_lt, le-leb, lt-leb, false≢true}
 use Rattle.std.proofs.Math.ListN.{get_or-map, length-map}
 use Rattle.std.proofs.lemmas.List.{get_or_default}
@@ -9,7 +10,8 @@ use Rattle.mds_types.specs.Problem.{IsForest, parent_at, heat_at, no_row}
 use Rattle.mds_types.specs.Sums.{sum_below, count_below}
 use Rattle.mds_types.specs.Division.{NeedsMore}
 use Rattle.mds_types.specs.CutTable.{is_child, cuts_at, rest_at, price_at, is_cut_at, no_cut, IsCutTable, sum_of_children}
-use Rattle.mds_types.proofs.SumsLemmas.{sum_below-zero, sum_below-same, sum_below-le, sum_below-two, sum_below_more, count_below-le, sum_from, sum_from-same, sum_below-split}
+use Rattle.mds_types.proofs.SumsLemmas.{sum_below-zero, sum_below-same, sum_below-le, sum_below-two, sum_below_more}
+use Rattle.mds_types.proofs.SumsLemmas.{count_below-le, sum_from, sum_from-same, sum_below-split}
 use Rattle.mds_types.proofs.Fewest.{Table}
 use Rattle.mds_types.proofs.DivisionLemmas.{part_count-from}
 use Rattle.residual_cut.specs.Walk.{is_handled, IsWalked, IsGivenRow, first_row}

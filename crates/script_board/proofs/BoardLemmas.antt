@@ -10,5 +10,6 @@ pub made_below : (b : BoardData) (text above name : List ℕ) (parent inodes : �
     → make_dir b text inodes ≡ replanned b (Make parent name inodes)
 made_below b text above name parent inodes cut found = rw (cut, found) refl
 
-pub refused_below : (b : BoardData) (text above name : List ℕ) (inodes : ℕ) (e : Fault) → last_slash text ≡ Some (above, name) → find b (parent_path above) ≡ Err e → make_dir b text inodes ≡ Err e
+pub refused_below : (b : BoardData) (text above name : List ℕ) (inodes : ℕ) (e : Fault) → last_slash text ≡ Some (above, name)
+    → find b (parent_path above) ≡ Err e → make_dir b text inodes ≡ Err e
 refused_below b text above name inodes e cut found = rw (cut, found) refl

@@ -21,7 +21,8 @@ use Rattle.script_board.specs.Fault.{unless_done}
 use Rattle.script_board.specs.Serve.{IsDealt, IsServedBy, refusals, waiting}
 
 -- each rank that has answered has its way back
-pub answered_ways : (before : World) (log : List Entry) (hands : List Hand) (scripts : List (List Work)) (answers : List (List WorkAnswer)) (after : List ShareData) (later : List Way)
+pub answered_ways : (before : World) (log : List Entry) (hands : List Hand) (scripts : List (List Work)) (answers : List (List WorkAnswer))
+    (after : List ShareData) (later : List Way)
     → AreAnswered before log hands scripts answers (hands_of after later) → length after ≡ length scripts → length scripts ≤ length later
 answered_ways before log hands [] answers after later h same = omega arith
 answered_ways before log hands (w ∷ scripts) answers [] later h same = absurd (omega (arith, same))
@@ -33,9 +34,12 @@ answered_ways before log (x ∷ hands) (w ∷ scripts) (a ∷ answers) (s ∷ af
 
 -- what a phase promises, of a board whose limit is that of the phase
 pub served_by : (exports : Bool) (stops : List RankStop) (limit : ℕ) (ways later : List Way) (old new : BoardData) (refused : List Fault)
-    (scripts : List (List Work)) (seats : List Seat) (answers : List (List WorkAnswer)) (ended deposited : Result Unit BoardError) → limit ≡ old.world.state.directories.limit
-    → IsDealt old.world (length old.shares) (waiting old) scripts seats → AreServed limit old.world new.world.history old.shares ways scripts answers new.shares later deposited
-    → RoseByAnswers limit old.world new.world old.shares scripts answers new.shares → IsEndTold old.world new.world ended → WentOnWithStops true exports (ranks_of stops) old.world new.world
+    (scripts : List (List Work)) (seats : List Seat) (answers : List (List WorkAnswer)) (ended deposited : Result Unit BoardError)
+    → limit ≡ old.world.state.directories.limit
+    → IsDealt old.world (length old.shares) (waiting old) scripts seats
+    → AreServed limit old.world new.world.history old.shares ways scripts answers new.shares later deposited
+    → RoseByAnswers limit old.world new.world old.shares scripts answers new.shares → IsEndTold old.world new.world ended
+    → WentOnWithStops true exports (ranks_of stops) old.world new.world
     → refused ≡ refusals answers seats ++ unless_done ended ++ unless_done deposited → IsServedBy exports stops ways later old refused new
 served_by exports stops limit ways later old new refused scripts seats answers ended deposited limited dealt served rose end went told = record {
   scripts = scripts;

@@ -25,7 +25,8 @@ none_passes bs h i below = NoCharPasses-char 47 bs i h (lit< tt) below
 pub no_slash_passes : (bs : List ℕ) → NoCharPasses (λ d. d == 47) bs → last_slash bs ≡ None
 no_slash_passes bs h = no_slash bs (none_passes bs h)
 
-pub slash_found : (bs above name : List ℕ) (i j : ℕ) → RFindsChar 47 bs (Some (i, j)) → above ≡ take i bs → name ≡ drop j bs → last_slash bs ≡ Some (above, name)
+pub slash_found : (bs above name : List ℕ) (i j : ℕ) → RFindsChar 47 bs (Some (i, j)) → above ≡ take i bs → name ≡ drop j bs
+    → last_slash bs ≡ Some (above, name)
 slash_found bs above name i j found front back =
     let whole : bs ≡ above ++ 47 ∷ name = sym (take-append-drop i bs) ∙ rw (drop_at_char 47 bs i j found.1 (lit< tt), ← front, ← back) refl in
     ap last_slash whole ∙ split_last above name (rw back (none_passes (drop j bs) found.0))

@@ -38,7 +38,8 @@ line_then (b ∷ line) more is = rw (is.0, line_then line more is.1) refl
 
 pub lines_of_ended : (lines : List (List ℕ)) (rest : List ℕ) → AllByRecursion IsLine lines → lines_of (ended lines ++ rest) ≡ lines ++ lines_of rest
 lines_of_ended [] rest all = refl
-lines_of_ended (l ∷ lines) rest all = rw append_assoc (line_then l (ended lines ++ rest) all.0 ∙ ap (λ (ls : List (List ℕ)). l ∷ ls) (lines_of_ended lines rest all.1))
+lines_of_ended (l ∷ lines) rest all = rw append_assoc
+    (line_then l (ended lines ++ rest) all.0 ∙ ap (λ (ls : List (List ℕ)). l ∷ ls) (lines_of_ended lines rest all.1))
 
 pub lines_of_line : (line : List ℕ) → IsLine line → line ≢ [] → lines_of line ≡ line ∷ []
 lines_of_line [] is some = absurd (some refl)
@@ -55,4 +56,5 @@ no_whole_line (b ∷ line) is = rw (is.0, no_whole_line line is.1) refl
 
 pub whole_lines_ended : (lines : List (List ℕ)) (rest : List ℕ) → AllByRecursion IsLine lines → whole_lines (ended lines ++ rest) ≡ lines ++ whole_lines rest
 whole_lines_ended [] rest all = refl
-whole_lines_ended (l ∷ lines) rest all = rw append_assoc (whole_then l (ended lines ++ rest) all.0 ∙ ap (λ (ls : List (List ℕ)). l ∷ ls) (whole_lines_ended lines rest all.1))
+whole_lines_ended (l ∷ lines) rest all = rw append_assoc
+    (whole_then l (ended lines ++ rest) all.0 ∙ ap (λ (ls : List (List ℕ)). l ∷ ls) (whole_lines_ended lines rest all.1))

@@ -1,5 +1,6 @@
 -- What a byte does to how far a run has come.
-use Rattle.std.proofs.Common.{◌≡◌, ◌≢◌, ℕ, suc, ◌+◌, ◌-◌, Bool, true, false, not, ◌&&◌, List, [], ◌∷◌, ◌++◌, ◌<◌, get_or, take, drop, length, refl, sym, ap, subst, ◌∙◌, append_assoc, append-nil, arith, length-append, length-drop, take_all}
+use Rattle.std.proofs.Common.{◌≡◌, ◌≢◌, ℕ, suc, ◌+◌, ◌-◌, Bool, true, false, not, ◌&&◌, List, [], ◌∷◌, ◌++◌, ◌<◌}
+use Rattle.std.proofs.Common.{get_or, take, drop, length, refl, sym, ap, subst, ◌∙◌, append_assoc, append-nil, arith, length-append, length-drop, take_all}
 use Rattle.std.proofs.lemmas.Bool.{true≢false}
 use Rattle.script_engine.specs.Lines.{IsLine, ended}
 use Rattle.script_engine.specs.Answers.{Answer, Takes, Run, text_of}
@@ -31,7 +32,8 @@ split_rest : (bytes front rest part : List ℕ) → bytes ≡ front ++ rest → 
 split_rest bytes front rest part e = ap (λ (t : List ℕ). t ++ part) e ∙ append_assoc front rest part
 
 -- a newline makes the rest and what follows it a line
-split_line : (bytes : List ℕ) (lines : List (List ℕ)) (rest part : List ℕ) → bytes ≡ ended lines ++ rest → bytes ++ (part ++ 10 ∷ []) ≡ ended (lines ++ (rest ++ part) ∷ []) ++ []
+split_line : (bytes : List ℕ) (lines : List (List ℕ)) (rest part : List ℕ) → bytes ≡ ended lines ++ rest
+    → bytes ++ (part ++ 10 ∷ []) ≡ ended (lines ++ (rest ++ part) ∷ []) ++ []
 split_line bytes lines rest part e =
     split_rest bytes (ended lines) rest (part ++ 10 ∷ []) e
     ∙ ap (λ (t : List ℕ). ended lines ++ t) (sym (append_assoc rest part (10 ∷ [])))
@@ -56,7 +58,10 @@ module _ {S : Type 0} (answers : S → ℕ → List ℕ → Answer → S → Typ
   }
 
   -- bytes without a newline
-  pub adds : (bytes text : List ℕ) (now : S) (p q : Progress) (part : List ℕ) (s : Stands answers strict start bytes text now p) → IsLine part → q.accepted ≡ p.accepted → q.number ≡ p.number → ((strict && not p.accepted) ≡ false → Holds (s.rest ++ part) q.line.items q.has_room) → Stands answers strict start (bytes ++ part) text now q
+  pub adds : (bytes text : List ℕ) (now : S) (p q : Progress) (part : List ℕ) (s : Stands answers strict start bytes text now p)
+      → IsLine part → q.accepted ≡ p.accepted → q.number ≡ p.number
+      → ((strict && not p.accepted) ≡ false → Holds (s.rest ++ part) q.line.items q.has_room)
+      → Stands answers strict start (bytes ++ part) text now q
   adds bytes text now p q part s line same count holds =
       let back : (strict && not q.accepted) ≡ (strict && not p.accepted) = ap (λ (v : Bool). strict && not v) same in
       record {
@@ -74,7 +79,8 @@ module _ {S : Type 0} (answers : S → ℕ → List ℕ → Answer → S → Typ
       }
 
   -- a line's end, after the end of a strict run
-  pub stays : (bytes text : List ℕ) (now : S) (p : Progress) (part : List ℕ) → Stands answers strict start bytes text now p → (strict && not p.accepted) ≡ true → IsLine part → Stands answers strict start (bytes ++ (part ++ 10 ∷ [])) (text ++ []) now p
+  pub stays : (bytes text : List ℕ) (now : S) (p : Progress) (part : List ℕ) → Stands answers strict start bytes text now p
+      → (strict && not p.accepted) ≡ true → IsLine part → Stands answers strict start (bytes ++ (part ++ 10 ∷ [])) (text ++ []) now p
   stays bytes text now p part s over line = record {
     lines = s.lines ++ (s.rest ++ part) ∷ [];
     rest = [];
@@ -89,14 +95,22 @@ module _ {S : Type 0} (answers : S → ℕ → List ℕ → Answer → S → Typ
     numbered = λ e. absurd (both _ over e);
   }
 
-  pub one_more : (bytes text line : List ℕ) (now new : S) (p : Progress) (a : Answer) (s : Stands answers strict start bytes text now p) → (strict && not p.accepted) ≡ false → Takes answers now p.number line a new → Run answers strict start 1 (s.lines ++ line ∷ []) (s.replies ++ a ∷ []) new
-  one_more bytes text line now new p a s going takes = run_push answers strict start now new 1 p.number s.lines s.replies line a s.run (ap (λ (v : Bool). strict && not v) (sym s.good) ∙ going) (s.numbered going) takes
+  pub one_more : (bytes text line : List ℕ) (now new : S) (p : Progress) (a : Answer) (s : Stands answers strict start bytes text now p)
+      → (strict && not p.accepted) ≡ false → Takes answers now p.number line a new
+      → Run answers strict start 1 (s.lines ++ line ∷ []) (s.replies ++ a ∷ []) new
+  one_more bytes text line now new p a s going takes =
+      run_push answers strict start now new 1 p.number s.lines s.replies line a s.run
+      (ap (λ (v : Bool). strict && not v) (sym s.good) ∙ going) (s.numbered going) takes
 
-  pub one_text : (bytes text : List ℕ) (now : S) (p : Progress) (a : Answer) (s : Stands answers strict start bytes text now p) → text ++ a.text ≡ text_of (s.replies ++ a ∷ [])
+  pub one_text : (bytes text : List ℕ) (now : S) (p : Progress) (a : Answer) (s : Stands answers strict start bytes text now p)
+      → text ++ a.text ≡ text_of (s.replies ++ a ∷ [])
   one_text bytes text now p a s = ap (λ (t : List ℕ). t ++ a.text) s.written ∙ sym (text_of_push s.replies a)
 
   -- a line's end, while lines are answered
-  pub ends : (bytes text part : List ℕ) (now new : S) (p q : Progress) (a : Answer) (s : Stands answers strict start bytes text now p) → (strict && not p.accepted) ≡ false → IsLine part → Takes answers now p.number (s.rest ++ part) a new → q.accepted ≡ (p.accepted && a.accepted) → q.line.items ≡ [] → q.has_room ≡ true → q.number ≡ p.number + 1 → Stands answers strict start (bytes ++ (part ++ 10 ∷ [])) (text ++ a.text) new q
+  pub ends : (bytes text part : List ℕ) (now new : S) (p q : Progress) (a : Answer) (s : Stands answers strict start bytes text now p)
+      → (strict && not p.accepted) ≡ false → IsLine part → Takes answers now p.number (s.rest ++ part) a new
+      → q.accepted ≡ (p.accepted && a.accepted) → q.line.items ≡ [] → q.has_room ≡ true → q.number ≡ p.number + 1
+      → Stands answers strict start (bytes ++ (part ++ 10 ∷ [])) (text ++ a.text) new q
   ends bytes text part now new p q a s going line takes good empty room count = record {
     lines = s.lines ++ (s.rest ++ part) ∷ [];
     rest = [];
@@ -112,7 +126,9 @@ module _ {S : Type 0} (answers : S → ℕ → List ℕ → Answer → S → Typ
   }
 
   -- the same, where a write of the answer failed
-  pub breaks : (bytes text part : List ℕ) (now new : S) (p : Progress) (a : Answer) (s : Stands answers strict start bytes text now p) → (strict && not p.accepted) ≡ false → IsLine part → Takes answers now p.number (s.rest ++ part) a new → Broken answers strict start (bytes ++ (part ++ 10 ∷ [])) text a.text
+  pub breaks : (bytes text part : List ℕ) (now new : S) (p : Progress) (a : Answer) (s : Stands answers strict start bytes text now p)
+      → (strict && not p.accepted) ≡ false → IsLine part → Takes answers now p.number (s.rest ++ part) a new
+      → Broken answers strict start (bytes ++ (part ++ 10 ∷ [])) text a.text
   breaks bytes text part now new p a s going line takes = record {
     lines = s.lines ++ (s.rest ++ part) ∷ [];
     rest = [];
@@ -124,8 +140,10 @@ module _ {S : Type 0} (answers : S → ℕ → List ℕ → Answer → S → Typ
     written = one_text bytes text now p a s;
   }
 
-  pub moved : (bytes more text words : List ℕ) (now : S) (p : Progress) → bytes ≡ more → text ≡ words → Stands answers strict start bytes text now p → Stands answers strict start more words now p
-  moved bytes more text words now p e f s = subst (λ (t : List ℕ). Stands answers strict start more t now p) f (subst (λ (b : List ℕ). Stands answers strict start b text now p) e s)
+  pub moved : (bytes more text words : List ℕ) (now : S) (p : Progress) → bytes ≡ more → text ≡ words
+      → Stands answers strict start bytes text now p → Stands answers strict start more words now p
+  moved bytes more text words now p e f s = subst (λ (t : List ℕ). Stands answers strict start more t now p) f
+      (subst (λ (b : List ℕ). Stands answers strict start b text now p) e s)
 
   -- bytes that come after a write that failed change nothing
   pub broken_more : (bytes more text tail : List ℕ) → Broken answers strict start bytes text tail → Broken answers strict start (bytes ++ more) text tail
@@ -141,7 +159,8 @@ module _ {S : Type 0} (answers : S → ℕ → List ℕ → Answer → S → Typ
   }
 
   -- a text that was written goes before
-  pub broken_after : (bytes text between tail : List ℕ) → Broken answers strict start bytes (text ++ between) tail → Broken answers strict start bytes text (between ++ tail)
+  pub broken_after : (bytes text between tail : List ℕ) → Broken answers strict start bytes (text ++ between) tail
+      → Broken answers strict start bytes text (between ++ tail)
   broken_after bytes text between tail b = record {
     lines = b.lines;
     rest = b.rest;
@@ -157,7 +176,8 @@ module _ {S : Type 0} (answers : S → ℕ → List ℕ → Answer → S → Typ
 pub piece_line : (bytes read line : List ℕ) → (bytes ++ read) ++ (line ++ 10 ∷ []) ≡ bytes ++ (read ++ (line ++ 10 ∷ []))
 piece_line bytes read line = append_assoc bytes read (line ++ 10 ∷ [])
 
-pub piece_left : (read rest piece : List ℕ) (n : ℕ) → n < length rest → get_or rest n 0 ≡ 10 → read ++ rest ≡ piece → (read ++ (take n rest ++ 10 ∷ [])) ++ drop (n + 1) rest ≡ piece
+pub piece_left : (read rest piece : List ℕ) (n : ℕ) → n < length rest → get_or rest n 0 ≡ 10 → read ++ rest ≡ piece
+    → (read ++ (take n rest ++ 10 ∷ [])) ++ drop (n + 1) rest ≡ piece
 piece_left read rest piece n inside is e =
     let next : suc n ≡ n + 1 = omega arith in
     subst (λ (m : ℕ). (read ++ (take n rest ++ 10 ∷ [])) ++ drop m rest ≡ piece) next
@@ -183,5 +203,6 @@ pub holds_line : (rest buffer part : List ℕ) (room : Bool) → Holds rest buff
 holds_line rest buffer part room h r = ap (λ (t : List ℕ). t ++ part) (h.kept r)
 
 -- the line whose last bytes were put into the buffer
-pub line_held : (line buffer after part : List ℕ) (was now : Bool) → (now ≡ true → (was ≡ true) × (after ≡ buffer ++ part)) → (was ≡ true → buffer ++ part ≡ line) → now ≡ true → after ≡ line
+pub line_held : (line buffer after part : List ℕ) (was now : Bool) → (now ≡ true → (was ≡ true) × (after ≡ buffer ++ part))
+    → (was ≡ true → buffer ++ part ≡ line) → now ≡ true → after ≡ line
 line_held line buffer after part was now held same room = (held room).1 ∙ same (held room).0

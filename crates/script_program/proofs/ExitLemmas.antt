@@ -33,14 +33,16 @@ pub all_in : (before after : Option (List ℕ)) (told : Result ⊤ Unwritten)
     → ((board : Option BoardData) → IsKeptAt board → All (λ c. IsBest c.problem c.plan) (certificates_at board))
     → ((board : Option BoardData) → IsKeptAt board → All (λ c. IsCertified c.problem c.plan) (certificates_at board))
     → (done : ⊤) → told ≡ Ok done → (board : Option BoardData) → IsKeptAt board → IsProved told before after board → HasAllIn before after board
-all_in before after told best certified done is board kept proved = let all = ok_of _ told done is proved.0 in (all.0, all.1, best board kept, certified board kept)
+all_in before after told best certified done is board kept proved = let all = ok_of _ told done is proved.0 in
+    (all.0, all.1, best board kept, certified board kept)
 
 pub front_in : (before after : Option (List ℕ)) (told : Result ⊤ Unwritten) (why : Unwritten) → told ≡ Err why
     → (board : Option BoardData) → IsKeptAt board → IsProved told before after board → HasFrontIn before after board
 front_in before after told why is board kept proved = err_of _ told why is proved.1
 
 -- certificates that are not written were asked for
-pub is_asked : {P : Type 0} (proofs : Option P) (told : Result ⊤ Unwritten) (why : Unwritten) → (proofs ≡ None → told ≡ Ok tt) → told ≡ Err why → is_some proofs ≡ true
+pub is_asked : {P : Type 0} (proofs : Option P) (told : Result ⊤ Unwritten) (why : Unwritten) → (proofs ≡ None → told ≡ Ok tt)
+    → told ≡ Err why → is_some proofs ≡ true
 is_asked (Some p) told why unasked is = refl
 is_asked {P} None told why unasked is = absurd (subst (λ (x : Result ⊤ Unwritten). OnErr x ⊥) (sym (unasked refl) ∙ is) tt)
 
@@ -78,8 +80,10 @@ module _ {R : Type 0} (remaining : R → Option (List ℕ)) (old new : Reading R
       → (f ≡ Memory → (new ≡ old) × (after ≡ before))
       → Run Whole Front named status
   broken_off Whole Front named Memory r status is says read cause write memory = let same = memory refl in inr (inr (inl (says, (same.0, same.1))))
-  broken_off Whole Front named Read r status is says read cause write memory = let whole = read is in inr (inr (inr (says, inl (cause is, whole.0, whole.1, whole.2))))
-  broken_off Whole Front named Write r status is says read cause write memory = let some = write is in inr (inr (inr (says, inr (inl (some.0, some.1, some.2)))))
+  broken_off Whole Front named Read r status is says read cause write memory = let whole = read is in
+      inr (inr (inr (says, inl (cause is, whole.0, whole.1, whole.2))))
+  broken_off Whole Front named Write r status is says read cause write memory = let some = write is in
+      inr (inr (inr (says, inr (inl (some.0, some.1, some.2)))))
 
   -- a run whose script came to its end, or to its first faulty line, where this holds of the board that is left
   pub carried_out : (proofs_before proofs_after : Option (List ℕ)) (ended : Ended) (accepted : Bool) (Has : Option BoardData → Type 0)
@@ -120,7 +124,8 @@ module _ {R : Type 0} (remaining : R → Option (List ℕ)) (old new : Reading R
       → Run (HasAllIn was now) (HasFrontIn was now) true status → Filed holds (option_map f proofs) status
   with_file {A} f proofs name is holds was now status all front ran =
       subst (λ (p : Option A). Filed holds (option_map f p) status) (sym is)
-      (said_otherwise (HasAllIn was now) (HasFrontIn was now) (InFile HasAllIn holds (Some (f name))) (InFile HasFrontIn holds (Some (f name))) true status all front ran)
+      (said_otherwise (HasAllIn was now) (HasFrontIn was now) (InFile HasAllIn holds (Some (f name)))
+      (InFile HasFrontIn holds (Some (f name))) true status all front ran)
 
   -- the file that is named was made, and kept
   pub with_kept : {A F : Type 0} (f : A → Text) (proofs : Option A) (name : A) → proofs ≡ Some name
@@ -133,7 +138,8 @@ module _ {R : Type 0} (remaining : R → Option (List ℕ)) (old new : Reading R
       with_file f proofs name is holds (contents made) (contents file) status
       (λ board has. in_file HasAllIn (early (f name)) (holds (f name)) (contents made) (contents file) board empty kept has)
       (λ board has. in_file HasFrontIn (early (f name)) (holds (f name)) (contents made) (contents file) board empty kept has)
-      (subst (λ (o : Option F). Run (HasAllIn (contents made) (option_and_then contents o)) (HasFrontIn (contents made) (option_and_then contents o)) true status) some ran)
+      (subst (λ (o : Option F). Run (HasAllIn (contents made) (option_and_then contents o))
+      (HasFrontIn (contents made) (option_and_then contents o)) true status) some ran)
 
   -- what was written to it is gone
   pub with_lost : {A F : Type 0} (f : A → Text) (proofs : Option A) (name : A) → proofs ≡ Some name
@@ -144,10 +150,12 @@ module _ {R : Type 0} (remaining : R → Option (List ℕ)) (old new : Reading R
   with_lost {A} {F} f proofs name is holds contents made left status none empty ran =
       with_file f proofs name is holds (contents made) None status
       (λ board has. lost_all (holds (f name)) (contents made) board empty has) (λ board has. lost_front (holds (f name)) (contents made) board empty has)
-      (subst (λ (o : Option F). Run (HasAllIn (contents made) (option_and_then contents o)) (HasFrontIn (contents made) (option_and_then contents o)) true status) none ran)
+      (subst (λ (o : Option F). Run (HasAllIn (contents made) (option_and_then contents o))
+      (HasFrontIn (contents made) (option_and_then contents o)) true status) none ran)
 
   -- what the words ask for was carried out
-  pub exits : {E : Type 0} (said : E → Option (List ℕ)) (errors_before errors_after : E) (holds : List ℕ → Option (List ℕ)) (words : List Text) (file : Option Text) (status : ℕ)
+  pub exits : {E : Type 0} (said : E → Option (List ℕ)) (errors_before errors_after : E) (holds : List ℕ → Option (List ℕ))
+      (words : List Text) (file : Option Text) (status : ℕ)
       → fault_of mdbal words ≡ [] → limit ≡ limit_of words → strict ≡ is_strict words → file ≡ proofs_of words
       → Filed holds file status
       → IsExit remaining said old new before after errors_before errors_after holds words status
@@ -160,7 +168,8 @@ module _ {R : Type 0} (remaining : R → Option (List ℕ)) (old new : Reading R
       )
 
 -- why the words give no settings was said
-module _ {R E : Type 0} (remaining : R → Option (List ℕ)) (said : E → Option (List ℕ)) (old new : Reading R) (before after : Option (List ℕ)) (errors_before errors_after : E) where
+module _ {R E : Type 0} (remaining : R → Option (List ℕ)) (said : E → Option (List ℕ)) (old new : Reading R)
+    (before after : Option (List ℕ)) (errors_before errors_after : E) where
   pub explained : (holds : List ℕ → Option (List ℕ)) (words : List Text) (error : OptionsError) (status : ℕ)
       → Explains (fault_of mdbal words) error → EndsWith error status → new ≡ old → (status ≡ 2 → after ≡ before)
       → (error ≡ cause.Memory → IsMemorySaid said errors_before errors_after)

@@ -53,7 +53,8 @@ module _ {R E : Type 0} (remaining : R → Option (List ℕ)) (said : E → Opti
       → IsFiledRun remaining read_before read_after answers_before answers_after limit strict holds (proofs_of words) status
       → (board : Option BoardData) × HasAllIn (Some []) (Some file) board
   of_run limit strict holds words name file status is_name is_file few (inl (is, ran)) = has_all limit strict true holds words name file is_name is_file ran
-  of_run limit strict holds words name file status is_name is_file few (inr (inl (is, ran))) = has_all limit strict false holds words name file is_name is_file ran
+  of_run limit strict holds words name file status is_name is_file few (inr (inl (is, ran))) =
+      has_all limit strict false holds words name file is_name is_file ran
   of_run limit strict holds words name file status is_name is_file few (inr (inr (inl (is, same)))) = absurd (omega (arith, few, is))
   of_run limit strict holds words name file status is_name is_file few (inr (inr (inr (is, rest)))) = absurd (omega (arith, few, is))
 
@@ -61,12 +62,14 @@ module _ {R E : Type 0} (remaining : R → Option (List ℕ)) (said : E → Opti
       → fault_of mdbal words ≡ [] → proofs_of words ≡ Some name → holds name ≡ Some file → status ≤ 1
       → IsExit remaining said read_before read_after answers_before answers_after said_before said_after holds words status
       → (board : Option BoardData) × HasAllIn (Some []) (Some file) board
-  of_exit holds words name file status none is_name is_file few (inl (accepted, ran)) = of_run (limit_of words) (is_strict words) holds words name file status is_name is_file few ran
+  of_exit holds words name file status none is_name is_file few (inl (accepted, ran)) =
+      of_run (limit_of words) (is_strict words) holds words name file status is_name is_file few ran
   of_exit holds words name file status none is_name is_file few (inr (inl (is, inl asked, same))) = absurd (subst (λ ks. IsAmong DisplayHelp ks) none asked)
   of_exit holds words name file status none is_name is_file few (inr (inl (is, inr asked, same))) = absurd (subst (λ ks. IsAmong DisplayVersion ks) none asked)
   of_exit holds words name file status none is_name is_file few (inr (inr (is, same, why))) = absurd (omega (arith, few, is))
 
-pub judged_yes : {W E : Type 0} (printed : W → Option (List ℕ)) (said : E → Option (List ℕ)) (file : List ℕ) (old new : W) (before after : E) (status : ℕ) (board : Option BoardData)
+pub judged_yes : {W E : Type 0} (printed : W → Option (List ℕ)) (said : E → Option (List ℕ)) (file : List ℕ) (old new : W)
+    (before after : E) (status : ℕ) (board : Option BoardData)
     → HasAllIn (Some []) (Some file) board → file ≢ [] → IsJudged printed said file old new before after status
     → (status ≡ 0) ⊎ (status ≡ 3) ⊎ ((status ≡ 2) × GrowsByFront (said before) (said after) memory_line)
 judged_yes printed said file old new before after status board proved some judged =

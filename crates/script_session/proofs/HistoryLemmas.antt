@@ -1,5 +1,6 @@
 -- Each line leaves a longer history, or the same.
-use Rattle.std.proofs.Common.{◌≡◌, ◌==◌, ℕ, Bool, true, false, cond, List, [], ◌∷◌, ◌++◌, length, refl, sym, ap, subst, ◌∙◌, append_assoc, append-nil, inl, inr, Option, Some, None, Result, Ok, Err}
+use Rattle.std.proofs.Common.{◌≡◌, ◌==◌, ℕ, Bool, true, false, cond, List, [], ◌∷◌, ◌++◌, length, refl, sym}
+use Rattle.std.proofs.Common.{ap, subst, ◌∙◌, append_assoc, append-nil, inl, inr, Option, Some, None, Result, Ok, Err}
 use Rattle.std.specs.Prelude.{option_map}
 use Rattle.phased_board.specs.Going.{WentOnWithStops, added}
 use Rattle.phased_board.specs.Stops.{ranks_of}
@@ -89,19 +90,24 @@ from_unless_taken (Some e) b x y longer is = cc
 from_step : (b : BoardData) (e : Event) (y : Stepped) → take_step b e ≡ Ok y → Longer b y.1
 from_step b e y is = from_unless_taken (refusal b.world.state (change.Step e)) b _ y (one_more b.world (change.Step e)) is
 
-step_bound : {A : Type 0} (b : BoardData) (y : Stepped) (r : Result A Fault) (f : A → Result Stepped Fault) → ((x : A) → r ≡ Ok x → f x ≡ Ok y → Longer b y.1) → (r >>= f) ≡ Ok y → Longer b y.1
+step_bound : {A : Type 0} (b : BoardData) (y : Stepped) (r : Result A Fault) (f : A → Result Stepped Fault)
+    → ((x : A) → r ≡ Ok x → f x ≡ Ok y → Longer b y.1) → (r >>= f) ≡ Ok y → Longer b y.1
 step_bound b y (Ok x) f longer is = longer x refl is
 step_bound b y (Err e) f longer is = cc
 
-from_start : (b : BoardData) (from to : ℕ) (paths : List (List ℕ)) (y : Stepped) → (find_all b paths >>= λ dirs. take_step b (event.Start from to dirs)) ≡ Ok y → Longer b y.1
+from_start : (b : BoardData) (from to : ℕ) (paths : List (List ℕ)) (y : Stepped)
+    → (find_all b paths >>= λ dirs. take_step b (event.Start from to dirs)) ≡ Ok y → Longer b y.1
 from_start b from to paths y is = step_bound b y (find_all b paths) _ (λ dirs _ taken. from_step b (event.Start from to dirs) y taken) is
 
 counted_longer : (b : BoardData) (done y : Stepped) (rank d : ℕ) → Longer b done.1 → taken (done.0, with_request done.1 rank d) ≡ Ok y → Longer b y.1
 counted_longer b done y rank d longer is = let same : (done.0, with_request done.1 rank d) ≡ y = cc in subst (λ (z : Stepped). Longer b z.1) same longer
 
-from_begin : (b : BoardData) (rank : ℕ) (path : List ℕ) (y : Stepped) → (find b path >>= λ d. take_step b (event.Begin rank d) >>= λ done. taken (done.0, with_request done.1 rank d)) ≡ Ok y → Longer b y.1
+from_begin : (b : BoardData) (rank : ℕ) (path : List ℕ) (y : Stepped)
+    → (find b path >>= λ d. take_step b (event.Begin rank d) >>= λ done. taken (done.0, with_request done.1 rank d)) ≡ Ok y → Longer b y.1
 from_begin b rank path y is =
-    step_bound b y (find b path) _ (λ d _ begun. step_bound b y (take_step b (event.Begin rank d)) _ (λ done told counted. counted_longer b done y rank d (from_step b (event.Begin rank d) done told) counted) begun) is
+    step_bound b y (find b path) _
+    (λ d _ begun. step_bound b y (take_step b (event.Begin rank d)) _
+    (λ done told counted. counted_longer b done y rank d (from_step b (event.Begin rank d) done told) counted) begun) is
 
 went_longer : (r x : Bool) (stops : List ℕ) (b new : BoardData) → WentOnWithStops r x stops b.world new.world → Longer b new
 went_longer r x stops b new went = (added b.world new.world, all_parts r x stops b.world new.world went)
@@ -166,12 +172,15 @@ published_on None u h = tt
 published_on (Some b) (Some c) h = h
 published_on (Some b) None h = absurd h
 
-settled_on : (o : Option BoardData) (x : Bool) (mid : SessionData) → GoesOn o mid.board → GoesOn o (let after : SessionData = cond x (published mid) mid in after).board
+settled_on : (o : Option BoardData) (x : Bool) (mid : SessionData) → GoesOn o mid.board
+    → GoesOn o (let after : SessionData = cond x (published mid) mid in after).board
 settled_on o true mid h = published_on o mid.board h
 settled_on o false mid h = h
 
-told_on : (old : SessionData) (number : ℕ) (p : Printed) (ample : Bool) (mid : SessionData) (a : Answer) (new : SessionData) → OnFrom old mid → IsTold number p ample mid a new → OnFrom old new
-told_on old number p ample mid a new h (inl (inl is)) = subst (λ (x : SessionData). OnFrom old x) (sym is.1) (settled_on old.board (length p.refused == 0) mid h)
+told_on : (old : SessionData) (number : ℕ) (p : Printed) (ample : Bool) (mid : SessionData) (a : Answer) (new : SessionData)
+    → OnFrom old mid → IsTold number p ample mid a new → OnFrom old new
+told_on old number p ample mid a new h (inl (inl is)) =
+    subst (λ (x : SessionData). OnFrom old x) (sym is.1) (settled_on old.board (length p.refused == 0) mid h)
 told_on old number p ample mid a new h (inl (inr is)) = subst (λ (x : SessionData). OnFrom old x) (sym is.1) h
 told_on old number p ample mid a new h (inr cut) = subst (λ (x : SessionData). OnFrom old x) (sym cut.3) h
 

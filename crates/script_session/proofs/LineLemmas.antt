@@ -1,5 +1,6 @@
 -- Lines that are written one after another.
-use Rattle.std.proofs.Common.{◌≡◌, ℕ, zero, suc, ◌+◌, ◌<◌, List, [], ◌∷◌, ◌++◌, length, take, drop, get_or, add-one, refl, sym, ap, ◌∙◌, arith, append_assoc, append-nil, Option, subst, map, ◌-◌}
+use Rattle.std.proofs.Common.{◌≡◌, ℕ, zero, suc, ◌+◌, ◌<◌, List, [], ◌∷◌, ◌++◌, length, take, drop}
+use Rattle.std.proofs.Common.{get_or, add-one, refl, sym, ap, ◌∙◌, arith, append_assoc, append-nil, Option, subst, map, ◌-◌}
 use Rattle.std.specs.List.{flat_map}
 use Rattle.std.specs.Io.KnownBytes.{Appends}
 use Rattle.script_engine.specs.Known.{AppendsFront}
@@ -7,7 +8,8 @@ use Rattle.script_engine.proofs.KnownLemmas.{front_after, front_wider}
 use Rattle.script_session.specs.Printed.{joined}
 
 -- one more element's text
-pub flat_map_more : {A : Type 0} (f : A → List ℕ) (xs : List A) (i : ℕ) (d : A) → i < length xs → flat_map f (take (i + 1) xs) ≡ flat_map f (take i xs) ++ f (get_or xs i d)
+pub flat_map_more : {A : Type 0} (f : A → List ℕ) (xs : List A) (i : ℕ) (d : A) → i < length xs
+    → flat_map f (take (i + 1) xs) ≡ flat_map f (take i xs) ++ f (get_or xs i d)
 flat_map_more {A} f xs i d h = rw add-one (grown xs i h)
   where
     grown : (xs : List A) (i : ℕ) → i < length xs → flat_map f (take (suc i) xs) ≡ flat_map f (take i xs) ++ f (get_or xs i d)
@@ -33,7 +35,8 @@ lines_front first mid last front chunk lines i written err whole =
     (front_wider first last (front ++ chunk) (joined (drop i lines)) (front_after first mid last front chunk written err))
 
 -- a line after the first
-pub nth_line : {A : Type 0} (first : List ℕ) (f : A → List ℕ) (xs : List A) (i : ℕ) (d : A) → (i ≡ 0 → ⊥) → i < length (first ∷ map f xs) → f (get_or xs (i - 1) d) ≡ get_or (first ∷ map f xs) i []
+pub nth_line : {A : Type 0} (first : List ℕ) (f : A → List ℕ) (xs : List A) (i : ℕ) (d : A) → (i ≡ 0 → ⊥) → i < length (first ∷ map f xs)
+    → f (get_or xs (i - 1) d) ≡ get_or (first ∷ map f xs) i []
 nth_line {A} first f xs zero d some h = absurd (some refl)
 nth_line {A} first f xs (suc i) d some h = let same : suc i - 1 ≡ i = omega arith in ap (λ (k : ℕ). f (get_or xs k d)) same ∙ behind xs i (omega arith)
   where

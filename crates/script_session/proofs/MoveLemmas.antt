@@ -10,7 +10,8 @@ length-pairs [] (w ∷ outcomes) same = refl
 length-pairs (o ∷ orders) [] same = absurd (omega arith)
 length-pairs (o ∷ orders) (w ∷ outcomes) same = ap suc (length-pairs orders outcomes (omega arith))
 
-pub pairs_at : (orders : List Order) (outcomes : List Outcome) (i : ℕ) (o : Order) (w : Outcome) (d : Order × Outcome) → length outcomes ≡ length orders → i < length orders
+pub pairs_at : (orders : List Order) (outcomes : List Outcome) (i : ℕ) (o : Order) (w : Outcome) (d : Order × Outcome)
+    → length outcomes ≡ length orders → i < length orders
     → get_or (pairs orders outcomes) i d ≡ (get_or orders i o, get_or outcomes i w)
 pairs_at [] outcomes i o w d same h = absurd (omega arith)
 pairs_at (x ∷ orders) [] i o w d same h = absurd (omega arith)

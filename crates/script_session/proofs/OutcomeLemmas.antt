@@ -6,7 +6,8 @@ use Rattle.script_commands.specs.Commands as line
 use Rattle.script_commands.specs.Commands.{Asked, Command, asked}
 use Rattle.script_board.specs.declared.fault.Fault.{Fault}
 use Rattle.script_board.specs.Board.{BoardData}
-use Rattle.script_session.specs.Does.{Changes, Does, IsQuiet, Meaning, Moves, Plans, Prints, Reports, Serves, Steps, Traffics, cause, failure, is_function, meaning}
+use Rattle.script_session.specs.Does.{Changes, Does, IsQuiet, Meaning, Moves, Plans, Prints, Reports}
+use Rattle.script_session.specs.Does.{Serves, Steps, Traffics, cause, failure, is_function, meaning}
 use Rattle.script_session.specs.Outcome.{answer_to, held, is_determined, is_sure, line_outcome, outcome, outcome_at, printed, replied, silent, told}
 use Rattle.script_session.specs.Printed.{Printed}
 use Rattle.script_session.specs.Session.{DoesAt, IsDone, IsTold, SessionData, answers, asked_cause, cause_at}
@@ -14,7 +15,8 @@ use Rattle.script_session.specs.Session.{DoesAt, IsDone, IsTold, SessionData, an
 quiet_outcome : (r : Result BoardData Fault) (p : Printed) (ample : Bool) (new : BoardData) → IsQuiet r p ample new → silent r ≡ Ok (p, new)
 quiet_outcome r p ample new h = ap silent h.0 ∙ ap (λ (x : Printed). Ok (x, new)) (sym h.1)
 
-does_outcome : (b : BoardData) (m : Meaning) (p : Printed) (ample : Bool) (new : BoardData) → is_function m ≡ true → Does b m p ample new → outcome b m ≡ Ok (p, new)
+does_outcome : (b : BoardData) (m : Meaning) (p : Printed) (ample : Bool) (new : BoardData) → is_function m ≡ true → Does b m p ample new
+    → outcome b m ≡ Ok (p, new)
 does_outcome b (Changes change) p ample new sure h = quiet_outcome _ p ample new h
 does_outcome b (Prints print) p ample new sure h = ap (printed b) h.1 ∙ (λ i. Ok (sym h.2 i, sym h.4 i))
 does_outcome b (Reports report) p ample new sure h = λ i. Ok (sym h.0 i, sym h.2 i)
@@ -46,23 +48,27 @@ cause_outcome b Plans fault sure h = cc
 cause_outcome b Moves fault sure h = cc
 cause_outcome b Traffics fault sure h = cc
 
-does_outcome_at : (limit : ℕ) (o : Option BoardData) (c : Command) (p : Printed) (ample : Bool) (new : BoardData) → is_determined (line.Asks c) ≡ true → DoesAt limit o c p ample new → outcome_at limit o c ≡ Ok (p, new)
+does_outcome_at : (limit : ℕ) (o : Option BoardData) (c : Command) (p : Printed) (ample : Bool) (new : BoardData)
+    → is_determined (line.Asks c) ≡ true → DoesAt limit o c p ample new → outcome_at limit o c ≡ Ok (p, new)
 does_outcome_at limit (Some b) c p ample new sure h = does_outcome b (meaning c) p ample new sure h
 does_outcome_at limit None c p ample new sure h = quiet_outcome _ p ample new h
 
-cause_outcome_at : (limit : ℕ) (o : Option BoardData) (c : Command) (fault : Fault) → is_determined (line.Asks c) ≡ true → cause_at limit o c ≡ Some fault → outcome_at limit o c ≡ Err fault
+cause_outcome_at : (limit : ℕ) (o : Option BoardData) (c : Command) (fault : Fault) → is_determined (line.Asks c) ≡ true
+    → cause_at limit o c ≡ Some fault → outcome_at limit o c ≡ Err fault
 cause_outcome_at limit (Some b) c fault sure h = cause_outcome b (meaning c) fault sure h
 cause_outcome_at limit None c fault sure h = silent_fault _ fault h
 
 -- what is done is the outcome
-pub done_line : (s : SessionData) (what : Asked) (p : Printed) (ample : Bool) (mid : SessionData) → is_determined what ≡ true → IsDone s what p ample mid → line_outcome s what ≡ Ok (p, mid)
+pub done_line : (s : SessionData) (what : Asked) (p : Printed) (ample : Bool) (mid : SessionData) → is_determined what ≡ true
+    → IsDone s what p ample mid → line_outcome s what ≡ Ok (p, mid)
 done_line s line.Nothing p ample mid sure h = λ i. Ok (sym h.0 i, sym h.2 i)
 done_line s line.Syntax p ample mid sure h = absurd h
 done_line s (line.Asks c) p ample mid sure h =
     ap (held s) (does_outcome_at s.limit s.board c p ample h.0 sure h.1) ∙ ap (λ (x : SessionData). Ok (p, x)) (sym h.2)
 
 -- a cause that applies is the outcome
-pub fault_line : (s : SessionData) (what : Asked) (fault : Fault) → is_determined what ≡ true → asked_cause s what ≡ Some fault → line_outcome s what ≡ Err fault
+pub fault_line : (s : SessionData) (what : Asked) (fault : Fault) → is_determined what ≡ true → asked_cause s what ≡ Some fault
+    → line_outcome s what ≡ Err fault
 fault_line s line.Nothing fault sure h = cc
 fault_line s line.Syntax fault sure h = cc
 fault_line s (line.Asks c) fault sure h = ap (held s) (cause_outcome_at s.limit s.board c fault sure h)

@@ -1,5 +1,6 @@
 -- The plan that was just adopted is the one in force, and the tops of its parts are there.
-use Rattle.std.proofs.Common.{◌≡◌, ℕ, zero, suc, ◌<◌, ◌+◌, Bool, true, false, cond, List, [], ◌∷◌, ◌++◌, length, refl, sym, ap, ◌∙◌, arith, All, Option, Some, None, length-append, subst}
+use Rattle.std.proofs.Common.{◌≡◌, ℕ, zero, suc, ◌<◌, ◌+◌, Bool, true, false, cond, List, [], ◌∷◌}
+use Rattle.std.proofs.Common.{◌++◌, length, refl, sym, ap, ◌∙◌, arith, All, Option, Some, None, length-append, subst}
 use Rattle.std.specs.Option.{option_and_then}
 use Rattle.std.specs.Prelude.{filter, is_none, slice_get, slice_index}
 use Rattle.std.proofs.lemmas.List.{length-map}
@@ -29,36 +30,47 @@ numbered s (e ∷ es) t h = let more : s.events + 1 + length es ≡ s.events + s
 
 get_end : (history : List Kept) (a b : Kept) → slice_get ((history ++ a ∷ []) ++ b ∷ []) (length history + 1) ≡ Some b
 get_end [] a b = refl
-get_end (x ∷ history) a b = let more : suc (length history) + 1 ≡ suc (length history + 1) = omega arith in ap (slice_get (((x ∷ history) ++ a ∷ []) ++ b ∷ [])) more ∙ get_end history a b
+get_end (x ∷ history) a b = let more : suc (length history) + 1 ≡ suc (length history + 1) = omega arith in
+    ap (slice_get (((x ∷ history) ++ a ∷ []) ++ b ∷ [])) more ∙ get_end history a b
 
 told_of : (w : World) (plan : Plan) → w.state.events ≡ length w.history → plan_in_force (recorded (recorded w Open) (Adopt plan)) ≡ Some plan
 unfolding happens
 told_of w plan same =
     let all : List Kept = (w.history ++ entry_of w.state Open ∷ []) ++ entry_of (next w.state Open) (Adopt plan) ∷ [] in
-    ap (option_and_then (λ (e : Kept). adopted e.change)) (ap (λ (n : ℕ). slice_get all (n + 1)) same ∙ get_end w.history (entry_of w.state Open) (entry_of (next w.state Open) (Adopt plan)))
+    ap (option_and_then (λ (e : Kept). adopted e.change))
+    (ap (λ (n : ℕ). slice_get all (n + 1)) same ∙ get_end w.history (entry_of w.state Open) (entry_of (next w.state Open) (Adopt plan)))
 
-counted_of : (w : World) (plan : Plan) (limit active : ℕ) → IsReplay (start limit active) (recorded (recorded w Open) (Adopt plan)).history (recorded (recorded w Open) (Adopt plan)).state → w.state.events ≡ length w.history
+counted_of : (w : World) (plan : Plan) (limit active : ℕ)
+    → IsReplay (start limit active) (recorded (recorded w Open) (Adopt plan)).history (recorded (recorded w Open) (Adopt plan)).state
+    → w.state.events ≡ length w.history
 unfolding happens
 counted_of w plan limit active replay =
     let one : List Kept = entry_of w.state Open ∷ [] in
     let two : List Kept = entry_of (next w.state Open) (Adopt plan) ∷ [] in
     let first : length ((w.history ++ one) ++ two) ≡ length (w.history ++ one) + length two = length-append (w.history ++ one) two in
     let second : length (w.history ++ one) ≡ length w.history + length one = length-append w.history one in
-    let all : w.state.events + 1 + 1 ≡ 0 + length ((w.history ++ one) ++ two) = numbered (start limit active) ((w.history ++ one) ++ two) (recorded (recorded w Open) (Adopt plan)).state replay in
+    let all : w.state.events + 1 + 1 ≡ 0 + length ((w.history ++ one) ++ two) =
+    numbered (start limit active) ((w.history ++ one) ++ two) (recorded (recorded w Open) (Adopt plan)).state replay in
     omega (arith, first, second, all)
 
 -- the plan in force is the one that was just adopted
-pub told_plan : (old now : BoardData) (plan : Plan) (limit active : ℕ) → IsPlanned old plan now → IsReplay (start limit active) now.world.history now.world.state → plan_in_force now.world ≡ Some plan
+pub told_plan : (old now : BoardData) (plan : Plan) (limit active : ℕ) → IsPlanned old plan now
+    → IsReplay (start limit active) now.world.history now.world.state → plan_in_force now.world ≡ Some plan
 told_plan old now plan limit active is replay =
     let same : now.world ≡ recorded (recorded old.world Open) (Adopt plan) = ap (λ (b : BoardData). b.world) is.adopted in
-    ap plan_in_force same ∙ told_of old.world plan (counted_of old.world plan limit active (subst (λ (w : World). IsReplay (start limit active) w.history w.state) same replay))
+    ap plan_in_force same ∙ told_of old.world plan
+    (counted_of old.world plan limit active (subst (λ (w : World). IsReplay (start limit active) w.history w.state) same replay))
 
-force_of : (w : World) (plan : Plan) → (event : ℕ) × ((recorded (recorded w Open) (Adopt plan)).state.in_force ≡ Some (record { problem = problem_of w.state; dirs = dirs_of w.state; event = event }))
+force_of : (w : World) (plan : Plan) → (event : ℕ)
+    × ((recorded (recorded w Open) (Adopt plan)).state.in_force
+    ≡ Some (record { problem = problem_of w.state; dirs = dirs_of w.state; event = event }))
 unfolding happens
 force_of w plan = (w.state.events + 1, refl)
 
 -- with its problem
-pub told_force : (old now : BoardData) (plan : Plan) → IsPlanned old plan now → (event : ℕ) × (now.world.state.in_force ≡ Some (record { problem = problem_of old.world.state; dirs = dirs_of old.world.state; event = event }))
+pub told_force : (old now : BoardData) (plan : Plan) → IsPlanned old plan now
+    → (event : ℕ) × (now.world.state.in_force
+    ≡ Some (record { problem = problem_of old.world.state; dirs = dirs_of old.world.state; event = event }))
 told_force old now plan is =
     let force = force_of old.world plan in
     (force.0, ap (λ (b : BoardData). b.world.state.in_force) is.adopted ∙ force.1)
@@ -93,7 +105,8 @@ unpinned_there entries own = All-weaker (λ d. is_unpinned entries own d ≡ tru
     (unpinned entries own) (passing (is_unpinned entries own) (below (length entries)))
 
 -- the tops of a plan's parts are directories
-pub tops_there : (s : State) (plan : Plan) → All (λ (part : PlanPart). is_there s.directories.entries part.top ≡ true) (plan_parts (problem_of s).rows (dirs_of s) plan)
+pub tops_there : (s : State) (plan : Plan) → All (λ (part : PlanPart). is_there s.directories.entries part.top ≡ true)
+    (plan_parts (problem_of s).rows (dirs_of s) plan)
 tops_there s plan =
     let rows = (problem_of s).rows in
     let count = length-rows s in
@@ -115,4 +128,5 @@ pub tops_in_force : (old now : BoardData) (made plan : Plan) (rows : List Proble
     → All (λ (part : PlanPart). is_there now.world.state.directories.entries part.top ≡ true) parts
 tops_in_force old now made plan rows dirs parts is problem below found =
     subst (λ (es : List (Option Entry)). All (λ (part : PlanPart). is_there es part.top ≡ true) parts) (sym (same_entries old now made is))
-    (subst (λ (ps : List PlanPart). All (λ (part : PlanPart). is_there old.world.state.directories.entries part.top ≡ true) ps) (sym (found ∙ rw (problem, below) refl)) (tops_there old.world.state plan))
+    (subst (λ (ps : List PlanPart). All (λ (part : PlanPart). is_there old.world.state.directories.entries part.top ≡ true) ps)
+    (sym (found ∙ rw (problem, below) refl)) (tops_there old.world.state plan))

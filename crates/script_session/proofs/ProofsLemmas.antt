@@ -27,7 +27,8 @@ pub readable : (before : Option (List ℕ)) → IfSome before (λ bytes. All IsW
 readable before = if_known before (All-nil IsWritable)
 
 -- a run that found no memory to begin with reads and writes nothing, and has no certificates
-pub nothing_run : {R : Type 0} (remaining : R → Option (List ℕ)) (limit : ℕ) (strict : Bool) (input : Reading R) (before proofs : Option (List ℕ)) (ended : Ended)
+pub nothing_run : {R : Type 0} (remaining : R → Option (List ℕ)) (limit : ℕ) (strict : Bool) (input : Reading R)
+    (before proofs : Option (List ℕ)) (ended : Ended)
     → ended ≡ record { answered = Err Memory; proved = Ok tt } → IsRunOf remaining limit strict input input before before proofs proofs ended
 nothing_run remaining limit strict input before proofs ended is = rw is
     (record {
@@ -47,6 +48,7 @@ nothing_run remaining limit strict input before proofs ended is = rw is
     not_write same = cc
 
 -- what holds of the certificates of every board
-pub at_board : (P : Certificate → Type 0) → ((w : World) → IsKept w → All P (certificates_of w)) → (board : Option BoardData) → IsKeptAt board → All P (certificates_at board)
+pub at_board : (P : Certificate → Type 0) → ((w : World) → IsKept w → All P (certificates_of w)) → (board : Option BoardData)
+    → IsKeptAt board → All P (certificates_at board)
 at_board P all None kept = All-nil P
 at_board P all (Some b) kept = all b.world kept

@@ -1,5 +1,6 @@
 -- Refusals that are written one after another.
-use Rattle.std.proofs.Common.{◌≡◌, ℕ, zero, suc, ◌+◌, ◌<◌, List, [], ◌∷◌, ◌++◌, length, take, drop, get_or, add-one, refl, sym, ap, ◌∙◌, arith, append_assoc, append-nil, Option, subst}
+use Rattle.std.proofs.Common.{◌≡◌, ℕ, zero, suc, ◌+◌, ◌<◌, List, [], ◌∷◌, ◌++◌, length, take}
+use Rattle.std.proofs.Common.{drop, get_or, add-one, refl, sym, ap, ◌∙◌, arith, append_assoc, append-nil, Option, subst}
 use Rattle.std.specs.List.{flat_map}
 use Rattle.std.specs.Io.KnownBytes.{Appends}
 use Rattle.std.proofs.KnownBytes.{Appends-trans}
@@ -7,7 +8,8 @@ use Rattle.script_engine.specs.Known.{AppendsFront}
 use Rattle.script_engine.proofs.KnownLemmas.{front_after, front_wider}
 
 -- one more element's text
-flat_map_more : {A : Type 0} (f : A → List ℕ) (xs : List A) (i : ℕ) (d : A) → i < length xs → flat_map f (take (i + 1) xs) ≡ flat_map f (take i xs) ++ f (get_or xs i d)
+flat_map_more : {A : Type 0} (f : A → List ℕ) (xs : List A) (i : ℕ) (d : A) → i < length xs
+    → flat_map f (take (i + 1) xs) ≡ flat_map f (take i xs) ++ f (get_or xs i d)
 flat_map_more {A} f xs i d h = rw add-one (grown xs i h)
   where
     grown : (xs : List A) (i : ℕ) → i < length xs → flat_map f (take (suc i) xs) ≡ flat_map f (take i xs) ++ f (get_or xs i d)
@@ -19,9 +21,11 @@ flat_map_more {A} f xs i d h = rw add-one (grown xs i h)
 flat_map_parted : {A : Type 0} (f : A → List ℕ) (xs : List A) (i : ℕ) → flat_map f xs ≡ flat_map f (take i xs) ++ flat_map f (drop i xs)
 flat_map_parted f xs zero = refl
 flat_map_parted f [] (suc i) = refl
-flat_map_parted f (x ∷ xs) (suc i) = ap (λ (t : List ℕ). f x ++ t) (flat_map_parted f xs i) ∙ sym (append_assoc (f x) (flat_map f (take i xs)) (flat_map f (drop i xs)))
+flat_map_parted f (x ∷ xs) (suc i) = ap (λ (t : List ℕ). f x ++ t) (flat_map_parted f xs i)
+    ∙ sym (append_assoc (f x) (flat_map f (take i xs)) (flat_map f (drop i xs)))
 
-module _ {A : Type 0} (f : A → List ℕ) (xs : List A) (i : ℕ) (x : A) (inside : i < length xs) (item : get_or xs i x ≡ x) (first mid last : Option (List ℕ)) where
+module _ {A : Type 0} (f : A → List ℕ) (xs : List A) (i : ℕ) (x : A) (inside : i < length xs) (item : get_or xs i x ≡ x)
+    (first mid last : Option (List ℕ)) where
   more : flat_map f (take (i + 1) xs) ≡ flat_map f (take i xs) ++ f x
   more = flat_map_more f xs i x inside ∙ ap (λ (y : A). flat_map f (take i xs) ++ f y) item
 
@@ -35,4 +39,5 @@ module _ {A : Type 0} (f : A → List ℕ) (xs : List A) (i : ℕ) (x : A) (insi
   written_front before one =
       subst (λ (t : List ℕ). AppendsFront first last t)
       (ap (λ (t : List ℕ). t ++ flat_map f (drop (i + 1) xs)) (sym more) ∙ sym (flat_map_parted f xs (i + 1)))
-      (front_wider first last (flat_map f (take i xs) ++ f x) (flat_map f (drop (i + 1) xs)) (front_after first mid last (flat_map f (take i xs)) (f x) before one))
+      (front_wider first last (flat_map f (take i xs) ++ f x) (flat_map f (drop (i + 1) xs))
+      (front_after first mid last (flat_map f (take i xs)) (f x) before one))

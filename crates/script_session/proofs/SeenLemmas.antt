@@ -14,17 +14,21 @@ unpublished : (x : Bool) (new mid : SessionData) → new ≡ mid → (let after 
 unpublished true new mid h = inr (ap published h)
 unpublished false new mid h = inl h
 
-done_seen : (s new : SessionData) (number : ℕ) (p : Printed) (ample : Bool) (mid : SessionData) (a : Answer) → IsTold number p ample mid a new → TellsNoMemory number a → IsSeenAs a new (told s number (Ok (p, mid)))
+done_seen : (s new : SessionData) (number : ℕ) (p : Printed) (ample : Bool) (mid : SessionData) (a : Answer)
+    → IsTold number p ample mid a new → TellsNoMemory number a → IsSeenAs a new (told s number (Ok (p, mid)))
 done_seen s new number p ample mid a (inl (inl is)) silent = (ap (λ (x : Answer). x.text) is.0, ap (λ (x : Answer). x.accepted) is.0, inl is.1)
 done_seen s new number p ample mid a (inl (inr is)) silent =
     (ap (λ (x : Answer). x.text) is.0, ap (λ (x : Answer). x.accepted) is.0, unpublished (length p.refused == 0) new mid is.1)
 done_seen s new number p ample mid a (inr cut) silent =
     let text : List ℕ = fault_text number (words Memory) in
-    absurd (silent (joined (take cut.0 p.lines)) [] (ap (λ (x : Answer). x.text) cut.2 ∙ ap (λ (t : List ℕ). joined (take cut.0 p.lines) ++ t) (sym (append-nil text))))
+    absurd (silent (joined (take cut.0 p.lines)) [] (ap (λ (x : Answer). x.text) cut.2
+    ∙ ap (λ (t : List ℕ). joined (take cut.0 p.lines) ++ t) (sym (append-nil text))))
 
-pub seen : (old new : SessionData) (number : ℕ) (bytes : List ℕ) (a : Answer) → is_sure bytes ≡ true → answers old number bytes a new → TellsNoMemory number a → IsSeenAs a new (answer_to old number bytes)
+pub seen : (old new : SessionData) (number : ℕ) (bytes : List ℕ) (a : Answer) → is_sure bytes ≡ true → answers old number bytes a new
+    → TellsNoMemory number a → IsSeenAs a new (answer_to old number bytes)
 seen old new number bytes a sure (inl (p, ample, mid, done, is)) silent =
-    subst (λ (o : LineOutcome). IsSeenAs a new (told old number o)) (sym (done_line old (asked bytes) p ample mid sure done)) (done_seen old new number p ample mid a is silent)
+    subst (λ (o : LineOutcome). IsSeenAs a new (told old number o)) (sym (done_line old (asked bytes) p ample mid sure done))
+    (done_seen old new number p ample mid a is silent)
 seen old new number bytes a sure (inr (inl (e, stands, is, same))) silent =
     subst (λ (o : LineOutcome). IsSeenAs a new (told old number o)) (sym (fault_line old (asked bytes) e sure stands))
     (ap (λ (x : Answer). x.text) is, ap (λ (x : Answer). x.accepted) is, inl same)

@@ -1,5 +1,6 @@
 -- Sessions that differ at most in how much of the map is published answer alike.
-use Rattle.std.proofs.Common.{◌≡◌, ◌==◌, ℕ, ◌+◌, Bool, true, false, not, ◌&&◌, cond, List, [], ◌∷◌, ◌++◌, length, take, Option, Some, None, Result, Ok, Err, refl, sym, ap, subst, ◌∙◌, inl, inr}
+use Rattle.std.proofs.Common.{◌≡◌, ◌==◌, ℕ, ◌+◌, Bool, true, false, not, ◌&&◌, cond, List, [], ◌∷◌, ◌++◌, length}
+use Rattle.std.proofs.Common.{take, Option, Some, None, Result, Ok, Err, refl, sym, ap, subst, ◌∙◌, inl, inr}
 use Rattle.std.specs.List.{list_all}
 use Rattle.std.specs.Prelude.{option_map, MatchBool}
 use Rattle.std.proofs.lemmas.Bool.{and_parts}
@@ -27,7 +28,8 @@ use Rattle.export_protocol.specs.Step.{no_rank}
 use Rattle.script_board.specs.Steps.{begin_at, find_all, start, take_step, with_request}
 use Rattle.script_session.specs.Printed.{Printed, joined, only_lines}
 use Rattle.script_session.specs.Does.{Changes, Meaning, Moves, Plans, Prints, Reports, Serves, Steps, Traffics, costed, is_function, meaning}
-use Rattle.script_session.specs.Outcome.{LineOutcome, Outcome, answer_to, held, is_determined, line_outcome, outcome, outcome_at, printed, replied, silent, told}
+use Rattle.script_session.specs.Outcome.{LineOutcome, Outcome, answer_to, held, is_determined, line_outcome}
+use Rattle.script_session.specs.Outcome.{outcome, outcome_at, printed, replied, silent, told}
 use Rattle.script_session.specs.Looks.{entry_line, fact_line, listed}
 use Rattle.script_session.specs.Steps.{event_of, step_line}
 use Rattle.script_session.specs.Session.{IsTold, SessionData, answers, beginning, at_beginning, done_answer, fault_answer, published, settled}
@@ -111,7 +113,8 @@ module _ (b : BoardData) (ops : List Operation) where
 
   like_start : (from to : ℕ) (paths : List (List ℕ)) → LikeStepped (start b from to paths) (start (shifted b ops) from to paths)
   like_start from to paths =
-      subst (λ (r : Result (List ℕ) Fault). LikeStepped (start b from to paths) (r >>= λ dirs. take_step (shifted b ops) (event.Start from to dirs))) (sym (same_dirs paths))
+      subst (λ (r : Result (List ℕ) Fault). LikeStepped (start b from to paths)
+      (r >>= λ dirs. take_step (shifted b ops) (event.Start from to dirs))) (sym (same_dirs paths))
       (step_bound (find_all b paths) _ _ (λ dirs. like_step (event.Start from to dirs)))
 
   like_begin : (rank : ℕ) (path : List ℕ) → LikeStepped (begin_at b rank path) (begin_at (shifted b ops) rank path)
@@ -143,9 +146,13 @@ module _ (b : BoardData) (ops : List Operation) where
   like_costed (Ok found) = (refl, (ops, refl))
   like_costed (Err e) = refl
 
-  like_cost : (paths : List (List ℕ)) → LikeOutcome (printed b (costed b (cost b paths))) (printed (shifted b ops) (costed (shifted b ops) (cost (shifted b ops) paths)))
+  like_cost : (paths : List (List ℕ)) → LikeOutcome (printed b (costed b (cost b paths)))
+      (printed (shifted b ops) (costed (shifted b ops) (cost (shifted b ops) paths)))
   like_cost paths =
-      subst (λ (r : Result (List ℕ) Fault). LikeOutcome (printed b (costed b (cost b paths))) (printed (shifted b ops) (costed (shifted b ops) (r >>= λ ts. Ok (parts b.world.state.directories.entries b.world.state.pins.own b.world.state.heats.heats ts))))) (sym (same_tops paths)) (like_costed (cost b paths))
+      subst (λ (r : Result (List ℕ) Fault). LikeOutcome (printed b (costed b (cost b paths)))
+      (printed (shifted b ops) (costed (shifted b ops) (r
+      >>= λ ts. Ok (parts b.world.state.directories.entries b.world.state.pins.own b.world.state.heats.heats ts)))))
+      (sym (same_tops paths)) (like_costed (cost b paths))
 
   like_on_board : (c : Command) → ignores_map (meaning c) ≡ true → LikeOutcome (outcome b (meaning c)) (outcome (shifted b ops) (meaning c))
   like_on_board (line.Ranks n) sure = refl
@@ -201,9 +208,11 @@ like_begun : (r : Result BoardData Fault) → LikeOutcome (silent r) (silent r)
 like_begun (Ok b) = (refl, itself b)
 like_begun (Err e) = refl
 
-like_outcome : (m n : ℕ) (o u : Option BoardData) (c : Command) → n ≡ m → LikeBoard o u → tells_all (line.Asks c) ≡ true → LikeOutcome (outcome_at m o c) (outcome_at n u c)
+like_outcome : (m n : ℕ) (o u : Option BoardData) (c : Command) → n ≡ m → LikeBoard o u → tells_all (line.Asks c) ≡ true
+    → LikeOutcome (outcome_at m o c) (outcome_at n u c)
 like_outcome m n None None c same l sure = subst (λ (k : ℕ). LikeOutcome (outcome_at m None c) (outcome_at k None c)) (sym same) (like_begun (at_beginning m c))
-like_outcome m n (Some b) (Some d) c same l sure = subst (λ (x : BoardData). LikeOutcome (outcome b (meaning c)) (outcome x (meaning c))) (sym l.1) (like_on_board b l.0 c sure)
+like_outcome m n (Some b) (Some d) c same l sure =
+    subst (λ (x : BoardData). LikeOutcome (outcome b (meaning c)) (outcome x (meaning c))) (sym l.1) (like_on_board b l.0 c sure)
 like_outcome m n None (Some d) c same l sure = absurd l
 like_outcome m n (Some b) None c same l sure = absurd l
 
@@ -243,12 +252,14 @@ settled_both false s t l = l
 abbrev AnswersAlike : Answer → SessionData → Answer × SessionData → Type 0
 AnswersAlike a new b = (a.text ≡ b.0.text) × (a.accepted ≡ b.0.accepted) × LikeSessions new b.1
 
-alike_done : (t new : SessionData) (n : ℕ) (p : Printed) (ample : Bool) (mid : SessionData) (a : Answer) (q : LineOutcome) → LikeLine (Ok (p, mid)) q → IsTold n p ample mid a new → (SaysMemory n a → ⊥) → AnswersAlike a new (told t n q)
+alike_done : (t new : SessionData) (n : ℕ) (p : Printed) (ample : Bool) (mid : SessionData) (a : Answer) (q : LineOutcome)
+    → LikeLine (Ok (p, mid)) q → IsTold n p ample mid a new → (SaysMemory n a → ⊥) → AnswersAlike a new (told t n q)
 alike_done t new n p ample mid a (Err f) l is quiet = absurd l
 alike_done t new n p ample mid a (Ok y) l (inl (inl is)) quiet = (
   ap (λ (x : Answer). x.text) is.0 ∙ ap (λ (x : Printed). (done_answer n x true).text) (sym l.0),
   ap (λ (x : Answer). x.accepted) is.0 ∙ ap (λ (x : Printed). (done_answer n x true).accepted) (sym l.0),
-  subst (λ (s : SessionData). LikeSessions s (settled y.0 y.1)) (sym is.1) (subst (λ (x : Printed). LikeSessions (settled p mid) (settled x y.1)) (sym l.0) (settled_both (length p.refused == 0) mid y.1 l.1)),
+  subst (λ (s : SessionData). LikeSessions s (settled y.0 y.1)) (sym is.1)
+      (subst (λ (x : Printed). LikeSessions (settled p mid) (settled x y.1)) (sym l.0) (settled_both (length p.refused == 0) mid y.1 l.1)),
 )
 alike_done t new n p ample mid a (Ok y) l (inl (inr is)) quiet = (
   ap (λ (x : Answer). x.text) is.0 ∙ ap (λ (x : Printed). (done_answer n x true).text) (sym l.0),
@@ -257,7 +268,8 @@ alike_done t new n p ample mid a (Ok y) l (inl (inr is)) quiet = (
 )
 alike_done t new n p ample mid a (Ok y) l (inr cut) quiet = absurd (quiet (joined (take cut.0 p.lines), ap (λ (x : Answer). x.text) cut.2))
 
-alike_fault : (s t new : SessionData) (n : ℕ) (fault : Fault) (a : Answer) (q : LineOutcome) → LikeLine (Err fault) q → LikeSessions s t → a ≡ fault_answer n fault → new ≡ s → AnswersAlike a new (told t n q)
+alike_fault : (s t new : SessionData) (n : ℕ) (fault : Fault) (a : Answer) (q : LineOutcome) → LikeLine (Err fault) q → LikeSessions s t
+    → a ≡ fault_answer n fault → new ≡ s → AnswersAlike a new (told t n q)
 alike_fault s t new n fault a (Ok y) l like is same = absurd l
 alike_fault s t new n fault a (Err f) l like is same = (
   ap (λ (x : Answer). x.text) is ∙ ap (λ (e : Fault). (fault_answer n e).text) (sym l),
@@ -280,25 +292,31 @@ determined_when_told line.Nothing sure = refl
 determined_when_told line.Syntax sure = refl
 determined_when_told (line.Asks c) sure = apart_is_function (meaning c) sure
 
-alike : (s t new : SessionData) (n : ℕ) (bytes : List ℕ) (a : Answer) → is_visible bytes ≡ true → LikeSessions s t → Takes answers s n bytes a new → (SaysMemory n a → ⊥) → AnswersAlike a new (answer_to t n bytes)
+alike : (s t new : SessionData) (n : ℕ) (bytes : List ℕ) (a : Answer) → is_visible bytes ≡ true → LikeSessions s t
+    → Takes answers s n bytes a new → (SaysMemory n a → ⊥) → AnswersAlike a new (answer_to t n bytes)
 alike s t new n bytes a sure like (inl (inl (p, ample, mid, done, is))) quiet =
     let what : Asked = asked bytes in
     let outcome_is : line_outcome s what ≡ Ok (p, mid) = done_line s what p ample mid (determined_when_told what sure) done in
-    alike_done t new n p ample mid a (line_outcome t what) (subst (λ (o : LineOutcome). LikeLine o (line_outcome t what)) outcome_is (like_asked s t what like sure)) is quiet
+    alike_done t new n p ample mid a (line_outcome t what)
+    (subst (λ (o : LineOutcome). LikeLine o (line_outcome t what)) outcome_is (like_asked s t what like sure)) is quiet
 alike s t new n bytes a sure like (inl (inr (inl (fault, stands, is, same)))) quiet =
     let what : Asked = asked bytes in
     let outcome_is : line_outcome s what ≡ Err fault = fault_line s what fault (determined_when_told what sure) stands in
-    alike_fault s t new n fault a (line_outcome t what) (subst (λ (o : LineOutcome). LikeLine o (line_outcome t what)) outcome_is (like_asked s t what like sure)) like is same
+    alike_fault s t new n fault a (line_outcome t what)
+    (subst (λ (o : LineOutcome). LikeLine o (line_outcome t what)) outcome_is (like_asked s t what like sure)) like is same
 alike s t new n bytes a sure like (inl (inr (inr (none, is, same)))) quiet = absurd (quiet ([], ap (λ (x : Answer). x.text) is))
 alike s t new n bytes a sure like (inr (is, same)) quiet = absurd (quiet ([], ap (λ (x : Answer). x.text) is))
 
 -- one answer, and those after it
-one_more : (x : Bool) (a b : Answer) (rest others : List Answer) (y z : SessionData) → a.text ≡ b.text → (x ≡ true → rest ≡ []) → (x ≡ false → text_of rest ≡ text_of others)
+one_more : (x : Bool) (a b : Answer) (rest others : List Answer) (y z : SessionData) → a.text ≡ b.text → (x ≡ true → rest ≡ [])
+    → (x ≡ false → text_of rest ≡ text_of others)
     → a.text ++ text_of rest ≡ text_of (let both : List Answer × SessionData = cond x (b ∷ [], y) (b ∷ others, z) in both).0
-one_more true a b rest others y z same none same_rest = ap (λ (t : List ℕ). t ++ text_of rest) same ∙ ap (λ (rs : List Answer). b.text ++ text_of rs) (none refl)
+one_more true a b rest others y z same none same_rest = ap (λ (t : List ℕ). t ++ text_of rest) same
+    ∙ ap (λ (rs : List Answer). b.text ++ text_of rs) (none refl)
 one_more false a b rest others y z same none same_rest = ap (λ (t : List ℕ). t ++ text_of rest) same ∙ ap (λ (t : List ℕ). b.text ++ t) (same_rest refl)
 
-pub visible : (strict : Bool) (n : ℕ) (lines : List (List ℕ)) (replies : List Answer) (s new t : SessionData) → list_all is_visible lines ≡ true → LikeSessions s t → Run answers strict s n lines replies new → NoneSaysMemory n replies
+pub visible : (strict : Bool) (n : ℕ) (lines : List (List ℕ)) (replies : List Answer) (s new t : SessionData)
+    → list_all is_visible lines ≡ true → LikeSessions s t → Run answers strict s n lines replies new → NoneSaysMemory n replies
     → text_of replies ≡ text_of (played answer_to strict t n lines).0
 unfolding Run
 visible strict n [] [] s new t all like run quiet = refl
@@ -312,7 +330,9 @@ visible strict n (line ∷ lines) (a ∷ rest) s new t all like (mid, takes, on)
     let same : (strict && not a.accepted) ≡ (strict && not b.0.accepted) = ap (λ (v : Bool). strict && not v) one.1 in
     one_more (strict && not b.0.accepted) a b.0 rest others.0 b.1 others.1 one.0
     (λ over. (subst (λ (v : Bool). MatchBool v ((rest ≡ []) × (new ≡ mid)) (Run answers strict mid (n + 1) lines rest new)) (same ∙ over) on).0)
-    (λ going. visible strict (n + 1) lines rest mid new b.1 sure.1 one.2 (subst (λ (v : Bool). MatchBool v ((rest ≡ []) × (new ≡ mid)) (Run answers strict mid (n + 1) lines rest new)) (same ∙ going) on) quiet.1)
+    (λ going. visible strict (n + 1) lines rest mid new b.1 sure.1 one.2
+    (subst (λ (v : Bool). MatchBool v ((rest ≡ []) × (new ≡ mid)) (Run answers strict mid (n + 1) lines rest new)) (same ∙ going) on)
+    quiet.1)
 
 -- a session is like itself at the beginning
 pub like_beginning : (limit : ℕ) → LikeSessions (beginning limit) (beginning limit)

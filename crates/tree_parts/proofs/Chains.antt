@@ -1,5 +1,6 @@
 -- The parts are connected, and divide what no pin holds.
-use Rattle.std.proofs.Common.{◌≡◌, ◌≢◌, ℕ, zero, suc, ◌<◌, ◌≤◌, ◌+◌, List, [], ◌∷◌, ◌++◌, length, sym, ap, ◌∙◌, refl, subst, arith, true, false, eqb, Option, Some, None, get_or, inl, inr}
+use Rattle.std.proofs.Common.{◌≡◌, ◌≢◌, ℕ, zero, suc, ◌<◌, ◌≤◌, ◌+◌, List, [], ◌∷◌, ◌++◌, length, sym}
+use Rattle.std.proofs.Common.{ap, ◌∙◌, refl, subst, arith, true, false, eqb, Option, Some, None, get_or, inl, inr}
 use Rattle.std.specs.Prelude.{filter, is_none}
 use Rattle.std.specs.List.{Contains}
 use Rattle.std.proofs.lemmas.Bool.{and_from, and_parts, cases_Bool, cases_eq, cases_lt, cases_order, eq-eqb, eqb-true, false≢true}
@@ -16,7 +17,8 @@ use Rattle.tree_parts.proofs.Elements.{Contains-map, Contains-mapped, kept_below
 use Rattle.tree_parts.proofs.Passes.{top_of-other, top_of-top}
 
 -- a chain with one member more at its end
-chain_more : (es : List (Option Entry)) (Member : ℕ → Type 0) (from : ℕ) (chain : List ℕ) (mid to : ℕ) → IsChain (IsEdge es) Member from chain mid → IsEdge es mid to → Member to → IsChain (IsEdge es) Member from (chain ++ to ∷ []) to
+chain_more : (es : List (Option Entry)) (Member : ℕ → Type 0) (from : ℕ) (chain : List ℕ) (mid to : ℕ)
+    → IsChain (IsEdge es) Member from chain mid → IsEdge es mid to → Member to → IsChain (IsEdge es) Member from (chain ++ to ∷ []) to
 chain_more es Member from [] mid to linked edge member = let P : ℕ → Type 0 = λ x. IsEdge es x to in (subst P (sym linked) edge, member, refl)
 chain_more es Member from (next ∷ chain) mid to linked edge member = (linked.0, linked.1, chain_more es Member next chain mid to linked.2 edge member)
 
@@ -88,7 +90,8 @@ module _ (es : List (Option Entry)) (own : List (Option ℕ)) (tops : List ℕ) 
   ]
 
   -- any two members are joined: the one with the larger number isn't the top, and its parent is a member
-  joined : (n t c d : ℕ) → c + d ≤ n → is_member es own tops t c ≡ true → is_member es own tops t d ≡ true → (chain : List ℕ) × IsChain (IsEdge es) (Contains (members es own tops t)) c chain d
+  joined : (n t c d : ℕ) → c + d ≤ n → is_member es own tops t c ≡ true → is_member es own tops t d ≡ true
+      → (chain : List ℕ) × IsChain (IsEdge es) (Contains (members es own tops t)) c chain d
   joined zero t c d few mc md = ([], omega arith)
   joined (suc n) t c d few mc md = elim (cases_order c d) [
     | inl same ↦ ([], same)
@@ -121,8 +124,12 @@ module _ (es : List (Option Entry)) (own : List (Option ℕ)) (tops : List ℕ) 
         let t : ℕ = top_of es tops d in
         let here : is_member es own tops t d ≡ true = member t d free refl in
         let top_free : is_unpinned es own t ≡ true = (is_in t t (to_top d t d (omega arith) here)).0 in
-        let passes : is_free_top es own tops t ≡ true = and_from (is_unpinned es own t) (is_top tops t) top_free (found d d (omega arith)).1 in
-        (part_at es own heats tops t, Contains-map (part_at es own heats tops) (filter (is_free_top es own tops) (below (length es))) t (kept_below (is_free_top es own tops) (length es) t (free_inside t top_free) passes), in_members t d here)
+        let passes : is_free_top es own tops t ≡ true = and_from (is_unpinned es own t) (is_top tops t) top_free (found d d (omega arith)).1 in (
+          part_at es own heats tops t,
+          Contains-map (part_at es own heats tops) (filter (is_free_top es own tops) (below (length es))) t
+              (kept_below (is_free_top es own tops) (length es) t (free_inside t top_free) passes),
+          in_members t d here,
+        )
 
     pub divide : IsDivision es own heats tops (parts es own heats tops)
     divide = record {

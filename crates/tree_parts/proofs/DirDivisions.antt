@@ -1,5 +1,6 @@
 -- A division of the directories that no pin holds is one of the problem's rows, and the other way round.
-use Rattle.std.proofs.Common.{◌≡◌, ◌↔◌, ℕ, zero, suc, ◌<◌, ◌≤◌, List, [], ◌∷◌, ◌++◌, length, map, sym, ap, ◌∙◌, refl, subst, arith, Bool, true, false, ◌&&◌, cond, eqb, get_or, append-nil, length-append, Option, inl, inr, ⊎_elim}
+use Rattle.std.proofs.Common.{◌≡◌, ◌↔◌, ℕ, zero, suc, ◌<◌, ◌≤◌, List, [], ◌∷◌, ◌++◌, length, map, sym, ap, ◌∙◌}
+use Rattle.std.proofs.Common.{refl, subst, arith, Bool, true, false, ◌&&◌, cond, eqb, get_or, append-nil, length-append, Option, inl, inr, ⊎_elim}
 use Rattle.std.specs.Prelude.{filter, is_none, slice_index}
 use Rattle.std.proofs.lemmas.Bool.{and_parts, cases_Bool}
 use Rattle.std.proofs.lemmas.List.{get_or-map, get_or_append_left, length-map}
@@ -86,11 +87,13 @@ module _ (es : List (Option Entry)) (own : List (Option ℕ)) (heats now : List 
   place_row i l = (kept_at (is_unpinned es own) (length es) i l).place_is
 
   -- parents and rows of parents
-  falls_to : (x y : ℕ) → is_unpinned es own x ≡ true → parent_of es x ≡ y → parent_at (problem_rows es own heats now) (row_of_dir es own x) ≡ row_of_dir es own y
+  falls_to : (x y : ℕ) → is_unpinned es own x ≡ true → parent_of es x ≡ y
+      → parent_at (problem_rows es own heats now) (row_of_dir es own x) ≡ row_of_dir es own y
   falls_to x y free up = parent_is es own heats now tree (row_of_dir es own x) (row_inside x free)
       ∙ ap (λ d. row_of_dir es own (parent_of es d)) (at_row x free) ∙ ap (row_of_dir es own) up
 
-  rises_to : (i j : ℕ) → i < length (unpinned es own) → parent_at (problem_rows es own heats now) i ≡ j → parent_of es (slice_index (unpinned es own) i) ≡ slice_index (unpinned es own) j
+  rises_to : (i j : ℕ) → i < length (unpinned es own) → parent_at (problem_rows es own heats now) i ≡ j
+      → parent_of es (slice_index (unpinned es own) i) ≡ slice_index (unpinned es own) j
   rises_to i j l up = sym (parents_row es own heats now tree i l) ∙ ap (slice_index (unpinned es own)) up
 
   -- placings of parts of directories and of parts of rows
@@ -127,14 +130,18 @@ module _ (es : List (Option Entry)) (own : List (Option ℕ)) (heats now : List 
     in_rows : (part d : ℕ) → InDirPart es own label part d → InPart (problem_rows es own heats now) (row_label es own label) part (row_of_dir es own d)
     in_rows part d is = (omega (arith, size, row_inside d is.0), ap label (at_row d is.0) ∙ is.1)
 
-    in_dirs : (part i : ℕ) → InPart (problem_rows es own heats now) (row_label es own label) part i → InDirPart es own label part (slice_index (unpinned es own) i)
+    in_dirs : (part i : ℕ) → InPart (problem_rows es own heats now) (row_label es own label) part i
+        → InDirPart es own label part (slice_index (unpinned es own) i)
     in_dirs part i is = (free_row i (omega (arith, size, is.0)), is.1)
 
-    row_edge : (part x y : ℕ) → InDirPart es own label part x → InDirPart es own label part y → IsParentOrChild (parent_of es) x y → IsEdge (problem_rows es own heats now) (row_of_dir es own x) (row_of_dir es own y)
+    row_edge : (part x y : ℕ) → InDirPart es own label part x → InDirPart es own label part y → IsParentOrChild (parent_of es) x y
+        → IsEdge (problem_rows es own heats now) (row_of_dir es own x) (row_of_dir es own y)
     row_edge part x y in_x in_y edge =
         ⊎_elim (λ (up : parent_of es x ≡ y). inl (falls_to x y in_x.0 up)) (λ (down : parent_of es y ≡ x). inr (falls_to y x in_y.0 down)) edge
 
-    dir_edge : (part i j : ℕ) → InPart (problem_rows es own heats now) (row_label es own label) part i → InPart (problem_rows es own heats now) (row_label es own label) part j → IsEdge (problem_rows es own heats now) i j → IsParentOrChild (parent_of es) (slice_index (unpinned es own) i) (slice_index (unpinned es own) j)
+    dir_edge : (part i j : ℕ) → InPart (problem_rows es own heats now) (row_label es own label) part i
+        → InPart (problem_rows es own heats now) (row_label es own label) part j → IsEdge (problem_rows es own heats now) i j
+        → IsParentOrChild (parent_of es) (slice_index (unpinned es own) i) (slice_index (unpinned es own) j)
     dir_edge part i j in_i in_j edge =
         ⊎_elim (λ (up : parent_at (problem_rows es own heats now) i ≡ j). inl (rises_to i j (omega (arith, size, in_i.0)) up))
         (λ (down : parent_at (problem_rows es own heats now) j ≡ i). inr (rises_to j i (omega (arith, size, in_j.0)) down)) edge
@@ -146,10 +153,12 @@ module _ (es : List (Option Entry)) (own : List (Option ℕ)) (heats now : List 
           (let c : ℕ = slice_index (unpinned es own) i in
           let d : ℕ = slice_index (unpinned es own) j in
           let (chain, linked) = is.connected part c d (in_dirs part i in_i) (in_dirs part j in_j) in
-          let Link : ℕ → ℕ → Type 0 = λ x y. IsChain (IsEdge (problem_rows es own heats now)) (InPart (problem_rows es own heats now) (row_label es own label) part) x (map (row_of_dir es own) chain) y in
+          let Link : ℕ → ℕ → Type 0 = λ x y. IsChain (IsEdge (problem_rows es own heats now))
+          (InPart (problem_rows es own heats now) (row_label es own label) part) x (map (row_of_dir es own) chain) y in
           let mapped : Link (row_of_dir es own c) (row_of_dir es own d) =
           chain_mapped (IsParentOrChild (parent_of es)) (IsEdge (problem_rows es own heats now)) (InDirPart es own label part)
-          (InPart (problem_rows es own heats now) (row_label es own label) part) (row_of_dir es own) (row_edge part) (in_rows part) chain c d (in_dirs part i in_i) linked in
+          (InPart (problem_rows es own heats now) (row_label es own label) part) (row_of_dir es own) (row_edge part) (in_rows part) chain c
+          d (in_dirs part i in_i) linked in
           let from : Link i (row_of_dir es own d) = subst (λ x. Link x (row_of_dir es own d)) (place_row i (omega (arith, size, in_i.0))) mapped in
           (map (row_of_dir es own) chain, subst (λ y. Link i y) (place_row j (omega (arith, size, in_j.0))) from));
     }
@@ -160,10 +169,13 @@ module _ (es : List (Option Entry)) (own : List (Option ℕ)) (heats now : List 
       connected = λ part c d in_c in_d.
           (let (chain, linked) = is.connected part (row_of_dir es own c) (row_of_dir es own d) (in_rows part c in_c) (in_rows part d in_d) in
           let at : ℕ → ℕ = slice_index (unpinned es own) in
-          let Link : ℕ → ℕ → Type 0 = λ x y. IsChain (IsParentOrChild (parent_of es)) (InDirPart es own label part) x (map (slice_index (unpinned es own)) chain) y in
+          let Link : ℕ → ℕ → Type 0 = λ x y. IsChain (IsParentOrChild (parent_of es)) (InDirPart es own label part) x
+          (map (slice_index (unpinned es own)) chain) y in
           let mapped : Link (at (row_of_dir es own c)) (at (row_of_dir es own d)) =
-          chain_mapped (IsEdge (problem_rows es own heats now)) (IsParentOrChild (parent_of es)) (InPart (problem_rows es own heats now) (row_label es own label) part)
-          (InDirPart es own label part) (slice_index (unpinned es own)) (dir_edge part) (in_dirs part) chain (row_of_dir es own c) (row_of_dir es own d) (in_rows part c in_c) linked in
+          chain_mapped (IsEdge (problem_rows es own heats now)) (IsParentOrChild (parent_of es))
+          (InPart (problem_rows es own heats now) (row_label es own label) part)
+          (InDirPart es own label part) (slice_index (unpinned es own)) (dir_edge part) (in_dirs part) chain (row_of_dir es own c)
+          (row_of_dir es own d) (in_rows part c in_c) linked in
           let from : Link c (at (row_of_dir es own d)) = subst (λ x. Link x (at (row_of_dir es own d))) (at_row c in_c.0) mapped in
           (map (slice_index (unpinned es own)) chain, subst (λ y. Link c y) (at_row d in_d.0) from));
     }
@@ -182,7 +194,8 @@ module _ (es : List (Option Entry)) (own : List (Option ℕ)) (heats now : List 
         by_rows ∙ listed_sum g (is_unpinned es own) (length es)
         ∙ sum_below-same (length es) _ _ (λ d l. both_tests (is_unpinned es own d) (eqb (label d) part) (slice_index heats d))
 
-    pub no_cooler : (heat : ℕ) → IsLowerBound (problem_rows es own heats now) k heat → IsDirDivision es own k label → heat ≤ greatest_dir_heat es own heats k label
+    pub no_cooler : (heat : ℕ) → IsLowerBound (problem_rows es own heats now) k heat → IsDirDivision es own k label
+        → heat ≤ greatest_dir_heat es own heats k label
     no_cooler heat lower is =
         let same : greatest_heat (problem_rows es own heats now) k (row_label es own label) ≡ greatest_dir_heat es own heats k label =
         same_greatest k _ _ heats_agree in

@@ -25,12 +25,14 @@ one_kept false n d k h is = absurd (omega arith)
 -- and what is kept is below n and passes
 pub passes_below : (test : ℕ → Bool) (n d : ℕ) → Contains (filter test (below n)) d → (d < n) × (test d ≡ true)
 passes_below test zero d h = absurd (omega (arith, h.1))
-passes_below test (suc n) d h = elim (Contains-append_cases (filter test (below n)) (filter test (n ∷ [])) d (rw (filter-append test (below n) (n ∷ [])) at h)) [
-  | inl before ↦ let rest = passes_below test n d before in (omega (arith, rest.0), rest.1)
-  | inr last ↦ let one = one_kept (test n) n d last.0 last.1 last.2 in (omega (arith, one.1), sym (ap test one.1) ∙ one.0)
-]
+passes_below test (suc n) d h =
+    elim (Contains-append_cases (filter test (below n)) (filter test (n ∷ [])) d (rw (filter-append test (below n) (n ∷ [])) at h)) [
+      | inl before ↦ let rest = passes_below test n d before in (omega (arith, rest.0), rest.1)
+      | inr last ↦ let one = one_kept (test n) n d last.0 last.1 last.2 in (omega (arith, one.1), sym (ap test one.1) ∙ one.0)
+    ]
 
-map_at : {A B : Type 0} (f : A → B) (xs : List A) (k : ℕ) (x : A) → k < length xs → get_or xs k x ≡ x → (k < length (map f xs)) × (get_or (map f xs) k (f x) ≡ f x)
+map_at : {A B : Type 0} (f : A → B) (xs : List A) (k : ℕ) (x : A) → k < length xs → get_or xs k x ≡ x
+    → (k < length (map f xs)) × (get_or (map f xs) k (f x) ≡ f x)
 map_at f [] k x h is = absurd (omega arith)
 map_at f (y ∷ ys) zero x h is = (omega arith, ap f is)
 map_at f (y ∷ ys) (suc k) x h is = let rest = map_at f ys k x (omega arith) is in (omega (arith, rest.0), rest.1)

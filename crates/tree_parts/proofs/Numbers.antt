@@ -1,5 +1,6 @@
 -- The numbers below a bound that pass a test, and what maps make of them.
-use Rattle.std.proofs.Common.{◌≡◌, ℕ, zero, suc, ◌<◌, ◌≤◌, ◌+◌, ◌⊎◌, List, [], ◌∷◌, ◌++◌, length, map, sym, ap, ◌∙◌, refl, arith, Bool, true, false, cond, get_or, inl, inr}
+use Rattle.std.proofs.Common.{◌≡◌, ℕ, zero, suc, ◌<◌, ◌≤◌, ◌+◌, ◌⊎◌, List, [], ◌∷◌, ◌++◌, length}
+use Rattle.std.proofs.Common.{map, sym, ap, ◌∙◌, refl, arith, Bool, true, false, cond, get_or, inl, inr}
 use Rattle.std.specs.Prelude.{filter}
 use Rattle.std.specs.List.{Contains, range_with_len}
 use Rattle.std.specs.List.Sorted.{IsStrictlyIncreasing}
@@ -21,14 +22,16 @@ kept_from : (test : ℕ → Bool) (a n d : ℕ) → a ≤ d → d < a + n → te
 kept_from test a zero d low high is = absurd (omega arith)
 kept_from test a (suc n) d low high is = elim (cases_eq a d) [
   | inl here ↦ head_kept (test a) a (filter test (range_with_len (a + 1) n)) d (ap test here ∙ is) here
-  | inr other ↦ tail_kept (test a) a (filter test (range_with_len (a + 1) n)) d (kept_from test (a + 1) n d (omega (arith, low, other)) (omega (arith, high)) is)
+  | inr other ↦ tail_kept (test a) a (filter test (range_with_len (a + 1) n)) d
+      (kept_from test (a + 1) n d (omega (arith, low, other)) (omega (arith, high)) is)
 ]
 
 -- a number below n that passes is among those that are kept
 pub kept_below : (test : ℕ → Bool) (n d : ℕ) → d < n → test d ≡ true → Contains (filter test (range_with_len 0 n)) d
 kept_below test n d h is = kept_from test 0 n d (omega arith) (omega (arith, h)) is
 
-first_or_rest : (b : Bool) (x : ℕ) (xs : List ℕ) (d k : ℕ) → k < length (cond b (x ∷ xs) xs) → get_or (cond b (x ∷ xs) xs) k d ≡ d → ((b ≡ true) × (x ≡ d)) ⊎ Contains xs d
+first_or_rest : (b : Bool) (x : ℕ) (xs : List ℕ) (d k : ℕ) → k < length (cond b (x ∷ xs) xs) → get_or (cond b (x ∷ xs) xs) k d ≡ d
+    → ((b ≡ true) × (x ≡ d)) ⊎ Contains xs d
 first_or_rest true x xs d zero h is = inl (refl, is)
 first_or_rest true x xs d (suc k) h is = inr (k, omega (arith, h), is)
 first_or_rest false x xs d k h is = inr (k, h, is)
@@ -63,7 +66,8 @@ pub kept_rises : (test : ℕ → Bool) (n : ℕ) → IsStrictlyIncreasing (filte
 kept_rises test n = IsStrictlyIncreasing-filter test (range_with_len 0 n) (range_rises n)
 
 range_more : (n : ℕ) → range_with_len 0 (n + 1) ≡ range_with_len 0 n ++ n ∷ []
-range_more n = sym (map-id (range_with_len 0 (n + 1))) ∙ map-range_with_len_more (λ (d : ℕ). d) 0 n n (omega arith) ∙ ap (λ (ds : List ℕ). ds ++ n ∷ []) (map-id (range_with_len 0 n))
+range_more n = sym (map-id (range_with_len 0 (n + 1))) ∙ map-range_with_len_more (λ (d : ℕ). d) 0 n n (omega arith)
+    ∙ ap (λ (ds : List ℕ). ds ++ n ∷ []) (map-id (range_with_len 0 n))
 
 -- one number more
 pub kept_more : (test : ℕ → Bool) (n : ℕ) → filter test (range_with_len 0 (n + 1)) ≡ filter test (range_with_len 0 n) ++ cond (test n) (n ∷ []) []
@@ -73,7 +77,8 @@ kept_more test n = ap (filter test) (range_more n) ∙ filter-append test (range
 pub places_rise : (xs : List ℕ) (i j : ℕ) → IsStrictlyIncreasing xs → i < j → j < length xs → get_or xs i 0 < get_or xs j 0
 places_rise xs i j rises less inside = AllPairs-from_increasing xs rises i j 0 less inside
 
-map_at : {A B : Type 0} (f : A → B) (xs : List A) (k : ℕ) (x : A) → k < length xs → get_or xs k x ≡ x → (k < length (map f xs)) × (get_or (map f xs) k (f x) ≡ f x)
+map_at : {A B : Type 0} (f : A → B) (xs : List A) (k : ℕ) (x : A) → k < length xs → get_or xs k x ≡ x
+    → (k < length (map f xs)) × (get_or (map f xs) k (f x) ≡ f x)
 map_at f [] k x h is = absurd (omega arith)
 map_at f (y ∷ ys) zero x h is = (omega arith, ap f is)
 map_at f (y ∷ ys) (suc k) x h is = let rest = map_at f ys k x (omega arith) is in (omega (arith, rest.0), rest.1)

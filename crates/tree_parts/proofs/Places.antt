@@ -1,5 +1,6 @@
 -- The place of a number among the numbers that pass a test.
-use Rattle.std.proofs.Common.{◌≡◌, ℕ, zero, suc, ◌<◌, ◌≤◌, ◌+◌, [], ◌∷◌, ◌++◌, length, sym, ap, ◌∙◌, refl, arith, Bool, true, false, cond, ltb, get_or, append-nil, length-append, inl, inr}
+use Rattle.std.proofs.Common.{◌≡◌, ℕ, zero, suc, ◌<◌, ◌≤◌, ◌+◌, [], ◌∷◌, ◌++◌, length, sym, ap}
+use Rattle.std.proofs.Common.{◌∙◌, refl, arith, Bool, true, false, cond, ltb, get_or, append-nil, length-append, inl, inr}
 use Rattle.std.specs.Prelude.{filter}
 use Rattle.std.proofs.lemmas.Bool.{cases_Bool, cases_eq, cases_lt, le-ltb, lt-ltb}
 use Rattle.std.proofs.lemmas.List.{get_or_append_left}
@@ -25,7 +26,12 @@ one_high test n m h = elim (cases_Bool (test n)) [
 
 all_lower : (test : ℕ → Bool) (n m : ℕ) → n ≤ m → filter (λ x. ltb x m) (filter test (below n)) ≡ filter test (below n)
 all_lower test zero m h = refl
-all_lower test (suc n) m h = rw (kept_next test n, filter-append (λ x. ltb x m) (filter test (below n)) (cond (test n) (n ∷ []) []), all_lower test n m (omega arith), one_low test n m (omega arith)) refl
+all_lower test (suc n) m h = rw (
+  kept_next test n,
+  filter-append (λ x. ltb x m) (filter test (below n)) (cond (test n) (n ∷ []) []),
+  all_lower test n m (omega arith),
+  one_low test n m (omega arith),
+) refl
 
 -- those of them that are smaller than m
 lower : (test : ℕ → Bool) (n m : ℕ) → m ≤ n → filter (λ x. ltb x m) (filter test (below n)) ≡ filter test (below m)
@@ -33,7 +39,12 @@ lower test zero zero h = refl
 lower test zero (suc m) h = absurd (omega arith)
 lower test (suc n) m h = elim (cases_lt n m) [
   | inl last ↦ let same : m ≡ suc n = omega arith in rw same (all_lower test (suc n) (suc n) (omega arith))
-  | inr before ↦ rw (kept_next test n, filter-append (λ x. ltb x m) (filter test (below n)) (cond (test n) (n ∷ []) []), lower test n m before, one_high test n m before) (append-nil (filter test (below m)))
+  | inr before ↦ rw (
+    kept_next test n,
+    filter-append (λ x. ltb x m) (filter test (below n)) (cond (test n) (n ∷ []) []),
+    lower test n m before,
+    one_high test n m before,
+  ) (append-nil (filter test (below m)))
 ]
 
 -- how many of them are smaller than m
@@ -46,13 +57,20 @@ one_few false n = omega arith
 
 pub kept_few : (test : ℕ → Bool) (n : ℕ) → length (filter test (below n)) ≤ n
 kept_few test zero = omega arith
-kept_few test (suc n) = omega (arith, ap length (kept_next test n), length-append (filter test (below n)) (cond (test n) (n ∷ []) []), one_few (test n) n, kept_few test n)
+kept_few test (suc n) = omega (
+  arith,
+  ap length (kept_next test n),
+  length-append (filter test (below n)) (cond (test n) (n ∷ []) []),
+  one_few (test n) n,
+  kept_few test n,
+)
 
 -- a number that passes comes before the larger ones
 pub place_less : (test : ℕ → Bool) (n p : ℕ) → p < n → test p ≡ true → length (filter test (below p)) < length (filter test (below n))
 place_less test zero p h is = absurd (omega arith)
 place_less test (suc n) p h is =
-    let all : length (filter test (below (suc n))) ≡ length (filter test (below n)) + length (cond (test n) (n ∷ []) []) = ap length (kept_next test n) ∙ length-append (filter test (below n)) (cond (test n) (n ∷ []) []) in
+    let all : length (filter test (below (suc n))) ≡ length (filter test (below n)) + length (cond (test n) (n ∷ []) []) =
+    ap length (kept_next test n) ∙ length-append (filter test (below n)) (cond (test n) (n ∷ []) []) in
     elim (cases_eq p n) [
       | inl here ↦
           let passes : test n ≡ true = sym (ap test here) ∙ is in
@@ -70,7 +88,8 @@ at_place test (suc n) p h is = elim (cases_eq p n) [
       rw (here, kept_next test n, passes) (get_or-append_seam (filter test (below n)) n [] 0)
   | inr other ↦
       let less : p < n = omega (arith, h, other) in
-      rw (kept_next test n) (get_or_append_left (filter test (below n)) (cond (test n) (n ∷ []) []) 0 (length (filter test (below p))) (place_less test n p less is) ∙ at_place test n p less is)
+      rw (kept_next test n) (get_or_append_left (filter test (below n)) (cond (test n) (n ∷ []) []) 0 (length (filter test (below p)))
+      (place_less test n p less is) ∙ at_place test n p less is)
 ]
 
 -- what is at a place is below n, passes, and has this place

@@ -1,5 +1,6 @@
 -- The orders are the largest connected sets.
-use Rattle.std.proofs.Common.{◌≡◌, ◌≢◌, ℕ, ◌<◌, ◌≤◌, ◌+◌, List, length, map, sym, ap, ◌∙◌, refl, subst, arith, true, false, eqb, get_or, Option, Some, None, inl, inr}
+use Rattle.std.proofs.Common.{◌≡◌, ◌≢◌, ℕ, ◌<◌, ◌≤◌, ◌+◌, List, length, map, sym, ap, ◌∙◌}
+use Rattle.std.proofs.Common.{refl, subst, arith, true, false, eqb, get_or, Option, Some, None, inl, inr}
 use Rattle.std.specs.Prelude.{filter, is_some}
 use Rattle.std.specs.List.{Contains, range_with_len}
 use Rattle.std.specs.Option.{option_map_or}
@@ -32,7 +33,8 @@ between_ranks (Some from) (Some to) h = elim (cases_Bool (eqb from to)) [
   | inr other ↦ rw other (record { at = refl; aim = refl; away = λ same. false≢true (sym other ∙ eq-eqb from to same) })
 ]
 
-ranks_between : (now target : Option ℕ) (from to : ℕ) → now ≡ Some from → target ≡ Some to → from ≢ to → between now target ≡ Some (record { from = from; to = to })
+ranks_between : (now target : Option ℕ) (from to : ℕ) → now ≡ Some from → target ≡ Some to → from ≢ to
+    → between now target ≡ Some (record { from = from; to = to })
 ranks_between now target from to at aim away = rw (at, aim, ne_eqb from to away) refl
 
 known : (m : Option Move) → is_some m ≡ true → m ≡ Some (record { from = from_of m; to = to_of m })
@@ -41,7 +43,8 @@ known (Some m) h = refl
 
 module _ (es : List (Option Entry)) (now target : List (Option ℕ)) where
   -- what the definition's moves are in the words of ranks
-  pub moves_of : (d : ℕ) → is_some (move_of es now target d) ≡ true → Moves es now target (from_of (move_of es now target d)) (to_of (move_of es now target d)) d
+  pub moves_of : (d : ℕ) → is_some (move_of es now target d) ≡ true
+      → Moves es now target (from_of (move_of es now target d)) (to_of (move_of es now target d)) d
   moves_of d some = elim (cases_Bool (is_there es d)) [
     | inl there ↦
         let is = between_ranks (rank_at now d) (rank_at target d) (rw there at some) in
@@ -64,7 +67,8 @@ root_parent es tree = ap (λ (e : Option Entry). option_map_or (λ e. e.parent) 
 
 module _ (es : List (Option Entry)) (now target : List (Option ℕ)) (tree : IsTree es) where
   in_dirs : (t d : ℕ) → is_member es (move_of es now target) t d ≡ true → Contains (dirs_of es (move_of es now target) t) d
-  in_dirs t d is = kept_below (is_member es (move_of es now target) t) (length es) d (move_inside es now target d (is_in es (move_of es now target) tree t d is).0) is
+  in_dirs t d is = kept_below (is_member es (move_of es now target) t) (length es) d
+      (move_inside es now target d (is_in es (move_of es now target) tree t d is).0) is
 
   from_dirs : (t d : ℕ) → Contains (dirs_of es (move_of es now target) t) d → is_member es (move_of es now target) t d ≡ true
   from_dirs t d h = (passes_below (is_member es (move_of es now target) t) (length es) d h).1
@@ -73,7 +77,8 @@ module _ (es : List (Option Entry)) (now target : List (Option ℕ)) (tree : IsT
   top_in t is = member es (move_of es now target) tree t t (top_moves es (move_of es now target) t is) (top_of-top es (move_of es now target) t is)
 
   -- a member's neighbour that moves likewise is a member
-  beside : (t c d : ℕ) → is_member es (move_of es now target) t c ≡ true → IsEdge es c d → move_of es now target d ≡ move_of es now target c → is_member es (move_of es now target) t d ≡ true
+  beside : (t c d : ℕ) → is_member es (move_of es now target) t c ≡ true → IsEdge es c d → move_of es now target d ≡ move_of es now target c
+      → is_member es (move_of es now target) t d ≡ true
   beside t c d is edge same =
       let both = is_in es (move_of es now target) tree t c is in
       let some : is_some (move_of es now target d) ≡ true = ap is_some same ∙ both.0 in
@@ -81,7 +86,8 @@ module _ (es : List (Option Entry)) (now target : List (Option ℕ)) (tree : IsT
         | inl up ↦ elim (cases_lt 0 c) [
           | inl low ↦
               let other : is_top es (move_of es now target) c ≡ false = no_top es (move_of es now target) c low both.0 (ap (move_of es now target) up ∙ same) in
-              member es (move_of es now target) tree t d some (sym (ap (top_of es (move_of es now target)) up) ∙ sym (top_of-other es (move_of es now target) tree c low other) ∙ both.1)
+              member es (move_of es now target) tree t d some (sym (ap (top_of es (move_of es now target)) up)
+              ∙ sym (top_of-other es (move_of es now target) tree c low other) ∙ both.1)
           | inr root ↦
               let zero_ : c ≡ 0 = omega (arith, root) in
               let here : c ≡ d = zero_ ∙ sym (root_parent es tree) ∙ sym (ap (parent_of es) zero_) ∙ up in
@@ -89,8 +95,10 @@ module _ (es : List (Option Entry)) (now target : List (Option ℕ)) (tree : IsT
         ]
         | inr down ↦ elim (cases_lt 0 d) [
           | inl low ↦
-              let other : is_top es (move_of es now target) d ≡ false = no_top es (move_of es now target) d low some (ap (move_of es now target) down ∙ sym same) in
-              member es (move_of es now target) tree t d some (top_of-other es (move_of es now target) tree d low other ∙ ap (top_of es (move_of es now target)) down ∙ both.1)
+              let other : is_top es (move_of es now target) d ≡ false =
+              no_top es (move_of es now target) d low some (ap (move_of es now target) down ∙ sym same) in
+              member es (move_of es now target) tree t d some (top_of-other es (move_of es now target) tree d low other
+              ∙ ap (top_of es (move_of es now target)) down ∙ both.1)
           | inr root ↦
               let zero_ : d ≡ 0 = omega (arith, root) in
               let here : c ≡ d = sym down ∙ ap (parent_of es) zero_ ∙ root_parent es tree ∙ sym zero_ in
@@ -98,7 +106,8 @@ module _ (es : List (Option Entry)) (now target : List (Option ℕ)) (tree : IsT
         ]
       ]
 
-  member_moves : (t d : ℕ) → is_member es (move_of es now target) t d ≡ true → Moves es now target (from_of (move_of es now target t)) (to_of (move_of es now target t)) d
+  member_moves : (t d : ℕ) → is_member es (move_of es now target) t d ≡ true
+      → Moves es now target (from_of (move_of es now target t)) (to_of (move_of es now target t)) d
   member_moves t d is =
       let P : Option Move → Type 0 = λ m. Moves es now target (from_of m) (to_of m) d in
       subst P (sym (alike es (move_of es now target) tree t d is)) (moves_of es now target d (is_in es (move_of es now target) tree t d is).0)
@@ -112,8 +121,10 @@ module _ (es : List (Option Entry)) (now target : List (Option ℕ)) (tree : IsT
       let here : get_or dirs at.0 0 ≡ t = get_or_default dirs at.0 0 t at.1 ∙ at.2 in
       elim (cases_lt 0 at.0) [
         | inl later ↦
-            let less : get_or dirs 0 0 < get_or dirs at.0 0 = places_rise dirs 0 at.0 (kept_rises (is_member es (move_of es now target) t) (length es)) later at.1 in
-            let least : t ≤ get_or dirs 0 0 = low es (move_of es now target) tree t (get_or dirs 0 0) (from_dirs t (get_or dirs 0 0) (Contains-get_or dirs 0 0 some)) in
+            let less : get_or dirs 0 0 < get_or dirs at.0 0 = places_rise dirs 0 at.0
+            (kept_rises (is_member es (move_of es now target) t) (length es)) later at.1 in
+            let least : t ≤ get_or dirs 0 0 = low es (move_of es now target) tree t (get_or dirs 0 0)
+            (from_dirs t (get_or dirs 0 0) (Contains-get_or dirs 0 0 some)) in
             absurd (omega (arith, less, least, here))
         | inr first ↦ let zero_ : at.0 ≡ 0 = omega (arith, first) in sym (ap (λ (k : ℕ). get_or dirs k 0) zero_) ∙ here
       ]
@@ -123,13 +134,16 @@ module _ (es : List (Option Entry)) (now target : List (Option ℕ)) (tree : IsT
     some = (let first = in_dirs t t (top_in t leads) in omega (arith, first.1));
     rising = kept_rises (is_member es (move_of es now target) t) (length es);
     moves = λ d h. member_moves t d (from_dirs t d h);
-    connected = λ c d hc hd. joined es (move_of es now target) tree (Contains (dirs_of es (move_of es now target) t)) (c + d) t c d (in_dirs t) (omega arith) (from_dirs t c hc) (from_dirs t d hd);
+    connected = λ c d hc hd. joined es (move_of es now target) tree (Contains (dirs_of es (move_of es now target) t)) (c + d) t c d
+        (in_dirs t) (omega arith) (from_dirs t c hc) (from_dirs t d hd);
     largest = λ c d hc edge moves.
         let is = from_dirs t c hc in
         let same : move_of es now target d ≡ move_of es now target t =
-        move_made es now target (from_of (move_of es now target t)) (to_of (move_of es now target t)) d moves ∙ sym (known (move_of es now target t) (top_moves es (move_of es now target) t leads)) in
+        move_made es now target (from_of (move_of es now target t)) (to_of (move_of es now target t)) d moves
+        ∙ sym (known (move_of es now target t) (top_moves es (move_of es now target) t leads)) in
         in_dirs t d (beside t c d is edge (same ∙ alike es (move_of es now target) tree t c is));
-    below_top = λ d h other. in_dirs t (parent_of es d) (up_member es (move_of es now target) tree t d (from_dirs t d h) (λ same. other (same ∙ sym (first_is t leads)))).1;
+    below_top = λ d h other. in_dirs t (parent_of es d)
+        (up_member es (move_of es now target) tree t d (from_dirs t d h) (λ same. other (same ∙ sym (first_is t leads)))).1;
   }
 
   -- an order is that of a top
@@ -152,20 +166,27 @@ module _ (es : List (Option Entry)) (now target : List (Option ℕ)) (tree : IsT
       let some : is_some (move_of es now target d) ≡ true = ap is_some (move_made es now target from to d moves) in
       let has = has_top es (move_of es now target) tree d some in
       let t : ℕ = top_of es (move_of es now target) d in
-      let inside : t < length es = move_inside es now target t (top_moves es (move_of es now target) t has.top) in
-      (order_of es (move_of es now target) (length es) t, Contains-map (order_of es (move_of es now target) (length es)) (tops es (move_of es now target) (length es)) t (kept_below (is_top es (move_of es now target)) (length es) t inside has.top), in_dirs t d (member es (move_of es now target) tree t d some refl))
+      let inside : t < length es = move_inside es now target t (top_moves es (move_of es now target) t has.top) in (
+        order_of es (move_of es now target) (length es) t,
+        Contains-map (order_of es (move_of es now target) (length es)) (tops es (move_of es now target) (length es)) t
+            (kept_below (is_top es (move_of es now target)) (length es) t inside has.top),
+        in_dirs t d (member es (move_of es now target) tree t d some refl),
+      )
 
-  top_at : (k : ℕ) → k < length (tops es (move_of es now target) (length es)) → get_or (map top (orders es now target)) k 0 ≡ get_or (tops es (move_of es now target) (length es)) k 0
+  top_at : (k : ℕ) → k < length (tops es (move_of es now target) (length es))
+      → get_or (map top (orders es now target)) k 0 ≡ get_or (tops es (move_of es now target) (length es)) k 0
   top_at k h =
       let f : ℕ → Order = order_of es (move_of es now target) (length es) in
       let ts : List ℕ = tops es (move_of es now target) (length es) in
-      let is : is_top es (move_of es now target) (get_or ts k 0) ≡ true = (passes_below (is_top es (move_of es now target)) (length es) (get_or ts k 0) (Contains-get_or ts k 0 h)).1 in
+      let is : is_top es (move_of es now target) (get_or ts k 0)
+      ≡ true = (passes_below (is_top es (move_of es now target)) (length es) (get_or ts k 0) (Contains-get_or ts k 0 h)).1 in
       get_or-map top (map f ts) k no_order 0 (rw (length-map ts f) h) ∙ ap top (get_or-map f ts k 0 no_order h) ∙ first_is (get_or ts k 0) is
 
   tops_rise : IsStrictlyIncreasing (map top (orders es now target))
   tops_rise k h =
       let ts : List ℕ = tops es (move_of es now target) (length es) in
-      let size : length (map top (orders es now target)) ≡ length ts = length-map (orders es now target) top ∙ length-map ts (order_of es (move_of es now target) (length es)) in
+      let size : length (map top (orders es now target)) ≡ length ts = length-map (orders es now target) top
+      ∙ length-map ts (order_of es (move_of es now target) (length es)) in
       let here = top_at k (omega (arith, h, size)) in
       let next = top_at (k + 1) (omega (arith, h, size)) in
       let rises : get_or ts k 0 < get_or ts (k + 1) 0 = kept_rises (is_top es (move_of es now target)) (length es) k (omega (arith, h, size)) in
@@ -178,6 +199,7 @@ module _ (es : List (Option Entry)) (now target : List (Option ℕ)) (tree : IsT
     once = λ o p d ho hp d_o d_p.
         let first = of_top o ho in
         let second = of_top p hp in
-        sym first.1.order ∙ ap (order_of es (move_of es now target) (length es)) (sym (top_by o first.0 d first.1 d_o) ∙ top_by p second.0 d second.1 d_p) ∙ second.1.order;
+        sym first.1.order ∙ ap (order_of es (move_of es now target) (length es))
+        (sym (top_by o first.0 d first.1 d_o) ∙ top_by p second.0 d second.1 d_p) ∙ second.1.order;
     tops = tops_rise;
   }

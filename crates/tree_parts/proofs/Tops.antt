@@ -1,5 +1,6 @@
 -- Which directory is the top of which.
-use Rattle.std.proofs.Common.{◌≡◌, ◌≢◌, ℕ, zero, suc, ◌<◌, ◌≤◌, ◌+◌, List, [], ◌∷◌, ◌++◌, sym, ap, ◌∙◌, refl, subst, arith, Bool, true, false, eqb, Option, Some, None, inl, inr}
+use Rattle.std.proofs.Common.{◌≡◌, ◌≢◌, ℕ, zero, suc, ◌<◌, ◌≤◌, ◌+◌, List, [], ◌∷◌, ◌++◌, sym, ap}
+use Rattle.std.proofs.Common.{◌∙◌, refl, subst, arith, Bool, true, false, eqb, Option, Some, None, inl, inr}
 use Rattle.std.specs.Prelude.{is_some, not}
 use Rattle.std.proofs.lemmas.Bool.{and_from, and_parts, and_right, cases_Bool, cases_order, eq-eqb, eqb-true, false≢true, true≢false}
 use Rattle.mds_types.specs.Connected.{IsChain}
@@ -25,7 +26,8 @@ moves_same m None some same = absurd (false≢true some)
 moves_same m (Some n) some same = rw same (and_from (eqb n.from n.from) (eqb n.to n.to) (eq-eqb n.from n.from refl) (eq-eqb n.to n.to refl))
 
 -- a chain with one member more at its end
-chain_more : (es : List (Option Entry)) (In : ℕ → Type 0) (from : ℕ) (chain : List ℕ) (mid to : ℕ) → IsChain (IsEdge es) In from chain mid → IsEdge es mid to → In to → IsChain (IsEdge es) In from (chain ++ to ∷ []) to
+chain_more : (es : List (Option Entry)) (In : ℕ → Type 0) (from : ℕ) (chain : List ℕ) (mid to : ℕ) → IsChain (IsEdge es) In from chain mid
+    → IsEdge es mid to → In to → IsChain (IsEdge es) In from (chain ++ to ∷ []) to
 chain_more es In from [] mid to linked edge member = let P : ℕ → Type 0 = λ x. IsEdge es x to in (subst P (sym linked) edge, member, refl)
 chain_more es In from (next ∷ chain) mid to linked edge member = (linked.0, linked.1, chain_more es In next chain mid to linked.2 edge member)
 
@@ -59,7 +61,8 @@ module _ (es : List (Option Entry)) (move : ℕ → Option Move) where
   pub no_top : (d : ℕ) → 0 < d → is_some (move d) ≡ true → move (parent_of es d) ≡ move d → is_top es move d ≡ false
   no_top zero h some same = absurd (omega arith)
   no_top (suc d) h some same =
-      and_right (is_some (move (suc d))) (not (is_same_move (move (parent_of es (suc d))) (move (suc d)))) (ap not (moves_same (move (parent_of es (suc d))) (move (suc d)) some same))
+      and_right (is_some (move (suc d))) (not (is_same_move (move (parent_of es (suc d))) (move (suc d))))
+      (ap not (moves_same (move (parent_of es (suc d))) (move (suc d)) some same))
 
   module _ (tree : IsTree es) where
     pub top_of-other : (d : ℕ) → 0 < d → is_top es move d ≡ false → top_of es move d ≡ top_of es move (parent_of es d)
@@ -78,7 +81,8 @@ module _ (es : List (Option Entry)) (move : ℕ → Option Move) where
         }
 
     at_top : (d : ℕ) → is_top es move d ≡ true → HasTop es move d
-    at_top d is = let same : top_of es move d ≡ d = top_of-top d is in record { low = omega (arith, same); top = ap (is_top es move) same ∙ is; along = ap move same }
+    at_top d is = let same : top_of es move d ≡ d = top_of-top d is in
+        record { low = omega (arith, same); top = ap (is_top es move) same ∙ is; along = ap move same }
 
     from_top : (n d : ℕ) → d ≤ n → is_some (move d) ≡ true → HasTop es move d
     from_top zero d few some = elim (cases_Bool (is_top es move d)) [
@@ -121,7 +125,8 @@ module _ (es : List (Option Entry)) (move : ℕ → Option Move) where
         ]
 
     -- any two members are joined: the one with the larger number isn't the top, and its parent is a member
-    pub joined : (In : ℕ → Type 0) (n t c d : ℕ) → ((e : ℕ) → is_member es move t e ≡ true → In e) → c + d ≤ n → is_member es move t c ≡ true → is_member es move t d ≡ true → (chain : List ℕ) × IsChain (IsEdge es) In c chain d
+    pub joined : (In : ℕ → Type 0) (n t c d : ℕ) → ((e : ℕ) → is_member es move t e ≡ true → In e) → c + d ≤ n
+        → is_member es move t c ≡ true → is_member es move t d ≡ true → (chain : List ℕ) × IsChain (IsEdge es) In c chain d
     joined In zero t c d within few mc md = ([], omega (arith, few))
     joined In (suc n) t c d within few mc md = elim (cases_order c d) [
       | inl same ↦ ([], same)

@@ -25,7 +25,8 @@ top_is true h = cc
 top_is false h = omega arith
 
 -- the sum over a mapped list of the numbers that pass
-pub sum_listed : {A : Type 0} (f : A → ℕ) (g : ℕ → A) (test : ℕ → Bool) (n : ℕ) → sum_by f (map g (filter test (below n))) ≡ sum_below n (λ i. cond (test i) (f (g i)) 0)
+pub sum_listed : {A : Type 0} (f : A → ℕ) (g : ℕ → A) (test : ℕ → Bool) (n : ℕ)
+    → sum_by f (map g (filter test (below n))) ≡ sum_below n (λ i. cond (test i) (f (g i)) 0)
 sum_listed f g test zero = refl
 sum_listed f g test (suc n) =
     let kept : List ℕ = filter test (below n) in
@@ -41,7 +42,8 @@ sum_listed f g test (suc n) =
 module _ (rows : List ProblemRow) (k : ℕ) (label : ℕ → ℕ) (forest : IsForest rows) (parts : IsPartition rows k label) where
   pub same_top : (part i j : ℕ) → IsTopOf rows label part i → IsTopOf rows label part j → i ≡ j
   same_top part i j at_i at_j =
-      one_top rows forest k label parts.division i j at_i.inside at_j.inside (at_i.label_is ∙ sym at_j.label_is) (top_is (joins (parent_at rows) label i) at_i.top) (top_is (joins (parent_at rows) label j) at_j.top)
+      one_top rows forest k label parts.division i j at_i.inside at_j.inside (at_i.label_is ∙ sym at_j.label_is)
+      (top_is (joins (parent_at rows) label i) at_i.top) (top_is (joins (parent_at rows) label j) at_j.top)
 
   some_top : (part : ℕ) → part < k → (i : ℕ) × IsTopOf rows label part i
   some_top part l =
@@ -74,11 +76,14 @@ module _ (rows : List ProblemRow) (k : ℕ) (label : ℕ → ℕ) (forest : IsFo
       sum_below-only (length rows) t f at.inside others ∙ here
 
   -- the sums of the parts, each taken at its top, are the sum over the rows
-  add_up : (f : ℕ → ℕ) → sum_below (length rows) (λ i. cond (is_part_top rows label i) (sum_below (length rows) (λ j. cond (eqb (label j) (label i)) (f j) 0)) 0) ≡ sum_below (length rows) f
+  add_up : (f : ℕ → ℕ) → sum_below (length rows)
+      (λ i. cond (is_part_top rows label i) (sum_below (length rows) (λ j. cond (eqb (label j) (label i)) (f j) 0)) 0)
+      ≡ sum_below (length rows) f
   add_up f =
       let n : ℕ = length rows in
       let of : ℕ → ℕ = λ part. sum_below n (λ j. cond (eqb (label j) part) (f j) 0) in
-      let spread : sum_below n (λ i. cond (is_part_top rows label i) (of (label i)) 0) ≡ sum_below n (λ i. sum_below k (λ part. cond (eqb (label i) part) (cond (is_part_top rows label i) (of part) 0) 0)) =
+      let spread : sum_below n (λ i. cond (is_part_top rows label i) (of (label i)) 0)
+      ≡ sum_below n (λ i. sum_below k (λ part. cond (eqb (label i) part) (cond (is_part_top rows label i) (of part) 0) 0)) =
       sum_below-same n _ _ (λ i l. sym (sum_below-pick k (label i) (λ part. cond (is_part_top rows label i) (of part) 0) (parts.division.below i l))) in
       let by_part : sum_below k (λ part. sum_below n (λ i. cond (eqb (label i) part) (cond (is_part_top rows label i) (of part) 0) 0)) ≡ sum_below k of =
       sum_below-same k _ _ (λ part l. at_top part (of part) l) in
@@ -90,8 +95,14 @@ module _ (rows : List ProblemRow) (k : ℕ) (label : ℕ → ℕ) (forest : IsFo
       ∙ sum_below-swap k n (λ part i. cond (eqb (label i) part) (f i) 0)
       ∙ by_row
 
-pub heats_add_up : (rows : List ProblemRow) (dirs : List ℕ) (plan : Plan) → IsForest rows → IsPartition rows (length plan.rank) (plan_label plan) → sum_by (λ part. part.heat) (plan_parts rows dirs plan) ≡ sum_below (length rows) (heat_at rows)
-heats_add_up rows dirs plan forest parts = sum_listed (λ part. part.heat) (part_of_top rows dirs plan) (is_part_top rows (plan_label plan)) (length rows) ∙ add_up rows (length plan.rank) (plan_label plan) forest parts (heat_at rows)
+pub heats_add_up : (rows : List ProblemRow) (dirs : List ℕ) (plan : Plan) → IsForest rows
+    → IsPartition rows (length plan.rank) (plan_label plan)
+    → sum_by (λ part. part.heat) (plan_parts rows dirs plan) ≡ sum_below (length rows) (heat_at rows)
+heats_add_up rows dirs plan forest parts = sum_listed (λ part. part.heat) (part_of_top rows dirs plan) (is_part_top rows (plan_label plan))
+    (length rows) ∙ add_up rows (length plan.rank) (plan_label plan) forest parts (heat_at rows)
 
-pub inodes_add_up : (rows : List ProblemRow) (dirs : List ℕ) (plan : Plan) → IsForest rows → IsPartition rows (length plan.rank) (plan_label plan) → sum_by (λ part. part.inodes) (plan_parts rows dirs plan) ≡ sum_below (length rows) (inodes_at rows)
-inodes_add_up rows dirs plan forest parts = sum_listed (λ part. part.inodes) (part_of_top rows dirs plan) (is_part_top rows (plan_label plan)) (length rows) ∙ add_up rows (length plan.rank) (plan_label plan) forest parts (inodes_at rows)
+pub inodes_add_up : (rows : List ProblemRow) (dirs : List ℕ) (plan : Plan) → IsForest rows
+    → IsPartition rows (length plan.rank) (plan_label plan)
+    → sum_by (λ part. part.inodes) (plan_parts rows dirs plan) ≡ sum_below (length rows) (inodes_at rows)
+inodes_add_up rows dirs plan forest parts = sum_listed (λ part. part.inodes) (part_of_top rows dirs plan)
+    (is_part_top rows (plan_label plan)) (length rows) ∙ add_up rows (length plan.rank) (plan_label plan) forest parts (inodes_at rows)

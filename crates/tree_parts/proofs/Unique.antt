@@ -28,7 +28,8 @@ module _ {A : Type 0} (key : A → ℕ) where
       let next : suc k + 1 ≡ suc (k + 1) = omega arith in
       rw next at (rises (suc k) (omega (arith, h)))
 
-  same_first : (x y : A) (xs ys : List A) → IsStrictlyIncreasing (map key (x ∷ xs)) → IsStrictlyIncreasing (map key (y ∷ ys)) → Contains (y ∷ ys) x → Contains (x ∷ xs) y → x ≡ y
+  same_first : (x y : A) (xs ys : List A) → IsStrictlyIncreasing (map key (x ∷ xs)) → IsStrictlyIncreasing (map key (y ∷ ys))
+      → Contains (y ∷ ys) x → Contains (x ∷ xs) y → x ≡ y
   same_first x y xs ys rise climb to back = elim (first_or_later y x ys to.0 to.1 to.2) [
     | inl same ↦ sym same
     | inr later ↦ elim (first_or_later x y xs back.0 back.1 back.2) [
@@ -44,17 +45,22 @@ module _ {A : Type 0} (key : A → ℕ) where
   ]
 
   -- lists of the same elements that rise by a number are equal
-  same_elements : (xs ys : List A) → IsStrictlyIncreasing (map key xs) → IsStrictlyIncreasing (map key ys) → ((x : A) → Contains xs x → Contains ys x) → ((x : A) → Contains ys x → Contains xs x) → xs ≡ ys
+  same_elements : (xs ys : List A) → IsStrictlyIncreasing (map key xs) → IsStrictlyIncreasing (map key ys)
+      → ((x : A) → Contains xs x → Contains ys x) → ((x : A) → Contains ys x → Contains xs x) → xs ≡ ys
   same_elements [] [] rise climb to back = refl
   same_elements [] (y ∷ ys) rise climb to back = absurd (omega (arith, (back y (0, omega arith, refl)).1))
   same_elements (x ∷ xs) [] rise climb to back = absurd (omega (arith, (to x (0, omega arith, refl)).1))
   same_elements (x ∷ xs) (y ∷ ys) rise climb to back =
       let first : x ≡ y = same_first x y xs ys rise climb (to x (0, omega arith, refl)) (back y (0, omega arith, refl)) in
-      let rest : xs ≡ ys = same_elements xs ys (rest_rises x xs rise) (rest_rises y ys climb) (λ z h. in_rest x y z xs ys rise first h (to z (rest_contains x z xs h))) (λ z h. in_rest y x z ys xs climb (sym first) h (back z (rest_contains y z ys h))) in
+      let rest : xs ≡ ys = same_elements xs ys (rest_rises x xs rise) (rest_rises y ys climb)
+      (λ z h. in_rest x y z xs ys rise first h (to z (rest_contains x z xs h)))
+      (λ z h. in_rest y x z ys xs climb (sym first) h (back z (rest_contains y z ys h))) in
       rw (first, rest) refl
 
-same_numbers : (xs ys : List ℕ) → IsStrictlyIncreasing xs → IsStrictlyIncreasing ys → ((x : ℕ) → Contains xs x → Contains ys x) → ((x : ℕ) → Contains ys x → Contains xs x) → xs ≡ ys
-same_numbers xs ys rise climb = same_elements (λ (d : ℕ). d) xs ys (subst IsStrictlyIncreasing (sym (map-id xs)) rise) (subst IsStrictlyIncreasing (sym (map-id ys)) climb)
+same_numbers : (xs ys : List ℕ) → IsStrictlyIncreasing xs → IsStrictlyIncreasing ys → ((x : ℕ) → Contains xs x → Contains ys x)
+    → ((x : ℕ) → Contains ys x → Contains xs x) → xs ≡ ys
+same_numbers xs ys rise climb = same_elements (λ (d : ℕ). d) xs ys (subst IsStrictlyIncreasing (sym (map-id xs)) rise)
+    (subst IsStrictlyIncreasing (sym (map-id ys)) climb)
 
 same_order : (o p : Order) → o.from ≡ p.from → o.to ≡ p.to → o.dirs ≡ p.dirs → o ≡ p
 same_order o p from to dirs =
@@ -64,7 +70,8 @@ same_order o p from to dirs =
 
 module _ (es : List (Option Entry)) (now target : List (Option ℕ)) where
   -- what is reached within one order is in any other that makes the same move and has the start
-  reached : (o p : Order) (c d : ℕ) (chain : List ℕ) → IsOrder es now target o → IsOrder es now target p → o.from ≡ p.from → o.to ≡ p.to → IsChain (IsEdge es) (Contains o.dirs) c chain d → Contains p.dirs c → Contains p.dirs d
+  reached : (o p : Order) (c d : ℕ) (chain : List ℕ) → IsOrder es now target o → IsOrder es now target p → o.from ≡ p.from → o.to ≡ p.to
+      → IsChain (IsEdge es) (Contains o.dirs) c chain d → Contains p.dirs c → Contains p.dirs d
   reached o p c d [] is other from to linked h = subst (Contains p.dirs) linked h
   reached o p c d (next ∷ chain) is other from to linked h =
       let moves : Moves es now target p.from p.to next = rw (← from, ← to) (is.moves next linked.1) in
@@ -76,7 +83,8 @@ module _ (es : List (Option Entry)) (now target : List (Option ℕ)) where
       only : (x y : ℕ) → Some x ≡ Some y → x ≡ y
       only x y h = cc
 
-  within : (o p : Order) (c : ℕ) → IsOrder es now target o → IsOrder es now target p → o.from ≡ p.from → o.to ≡ p.to → Contains o.dirs c → Contains p.dirs c → (d : ℕ) → Contains o.dirs d → Contains p.dirs d
+  within : (o p : Order) (c : ℕ) → IsOrder es now target o → IsOrder es now target p → o.from ≡ p.from → o.to ≡ p.to → Contains o.dirs c
+      → Contains p.dirs c → (d : ℕ) → Contains o.dirs d → Contains p.dirs d
   within o p c is other from to ho hp d h = let way = is.connected c d ho h in reached o p c d way.0 is other from to way.1 hp
 
   -- an order of one list is one of any other
@@ -89,7 +97,8 @@ module _ (es : List (Option Entry)) (now target : List (Option ℕ)) where
       let p : Order = found.0 in
       let other : IsOrder es now target p = others.each p found.1 in
       let move = same_move o.from o.to p.from p.to first (is.moves first ho) (other.moves first found.2) in
-      let dirs : o.dirs ≡ p.dirs = same_numbers o.dirs p.dirs is.rising other.rising (within o p first is other move.0 move.1 ho found.2) (within p o first other is (sym move.0) (sym move.1) found.2 ho) in
+      let dirs : o.dirs ≡ p.dirs = same_numbers o.dirs p.dirs is.rising other.rising (within o p first is other move.0 move.1 ho found.2)
+      (within p o first other is (sym move.0) (sym move.1) found.2 ho) in
       subst (Contains ps) (sym (same_order o p move.0 move.1 dirs)) found.1
 
   pub unique : (os ps : List Order) → AreOrders es now target os → AreOrders es now target ps → os ≡ ps

@@ -1,4 +1,5 @@
-use Rattle.std.proofs.Common.{◌≡◌, ◌+◌, ◌<◌, ◌==◌, ◌||◌, ℕ, Bool, true, false, List, [], ◌∷◌, drop, length, get_or, if◌then◌else◌, refl, sym, ap, ◌∙◌, arith, subst}
+use Rattle.std.proofs.Common.{◌≡◌, ◌+◌, ◌<◌, ◌==◌, ◌||◌, ℕ, Bool, true, false, List, []}
+use Rattle.std.proofs.Common.{◌∷◌, drop, length, get_or, if◌then◌else◌, refl, sym, ap, ◌∙◌, arith, subst}
 use Rattle.std.proofs.lemmas.List.{drop_more, drop_all, get_or_read}
 use Rattle.std.proofs.lemmas.Bool.Decides.{nat_tests}
 use Rattle.authority_map.specs.Operations.{names}
@@ -23,7 +24,8 @@ next_written : (limit : ℕ) (runs new : Runs) (dirs left : List ℕ) (dir cell 
 next_written limit runs new dirs left dir cell old was writes = record {
   now = λ d. if d == dir then cell else was.now d;
   has = writes was.now was.has;
-  rest = λ d. ap (λ (b : Bool). (if names left d then cell else (if b then cell else was.now d))) (turned d dir) ∙ either_way (dir == d) (names left d) cell (was.now d) ∙ was.rest d;
+  rest = λ d. ap (λ (b : Bool). (if names left d then cell else (if b then cell else was.now d))) (turned d dir)
+      ∙ either_way (dir == d) (names left d) cell (was.now d) ∙ was.rest d;
 }
 
 pub loop-dir-preserved : goal.loop-dir-preserved
@@ -36,7 +38,8 @@ loop-dir-preserved c =
     record {
       table = c.write.ensures.table;
       cells = λ old has. next_written c.args.limit c.loop-dir.runs c.write.new.runs dirs (drop (i + 1) dirs) c.number.result c.args.cell old
-          (subst (λ (l : List ℕ). IsWritten c.args.limit c.loop-dir.runs dirs l c.args.cell old) cut (c.loop-dir.invariant.cells old has)) c.write.ensures.cells;
+          (subst (λ (l : List ℕ). IsWritten c.args.limit c.loop-dir.runs dirs l c.args.cell old) cut (c.loop-dir.invariant.cells old has))
+          c.write.ensures.cells;
     }
 
 pub returns-clause-cells : goal.returns-clause-cells
@@ -44,7 +47,8 @@ returns-clause-cells c old has =
     let dirs = c.args.dirs.now in
     let none : drop c.loop-dir.dir-index dirs ≡ [] = drop_all c.loop-dir.dir-index dirs c.loop-dir-test.false in
     let done = subst (λ (l : List ℕ). IsWritten c.args.limit c.loop-dir.runs dirs l c.args.cell old) none (c.loop-dir.invariant.cells old has) in
-    same_cells c.args.limit c.loop-dir.runs.starts.items c.loop-dir.runs.cells.items done.now (λ d. if names dirs d then c.args.cell else old d) 0 0 done.has done.rest
+    same_cells c.args.limit c.loop-dir.runs.starts.items c.loop-dir.runs.cells.items done.now
+    (λ d. if names dirs d then c.args.cell else old d) 0 0 done.has done.rest
 
 pub index_again-requires-clause-few : goal.index_again-requires-clause-few
 index_again-requires-clause-few c =

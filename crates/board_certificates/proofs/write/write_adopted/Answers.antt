@@ -13,9 +13,13 @@ write_one-requires g c = subst IsSized (ap (option_map (λ posed. posed_of posed
 pub returns-clause-written : goal.returns-clause-written
 returns-clause-written g c =
     subst (λ (t : List ℕ). OnOk c.write_one.result (Appends (g.W.Write.contents c.args.writer.now) (g.W.Write.contents c.write_one.new.writer) t))
-    (sym (one _ c.args.change.now (posed_of c.in-Some.posed.now) c.plan.result.now (ap (option_map (λ posed. posed_of posed.now)) c.in-Some.is) (c.in-Adopt.is ∙ ap Adopt (sym c.plan.ensures)))) c.write_one.ensures.written
+    (sym (one _ c.args.change.now (posed_of c.in-Some.posed.now) c.plan.result.now
+    (ap (option_map (λ posed. posed_of posed.now)) c.in-Some.is) (c.in-Adopt.is ∙ ap Adopt (sym c.plan.ensures))))
+    c.write_one.ensures.written
 
 pub returns-clause-begun : goal.returns-clause-begun
 returns-clause-begun g c =
     subst (λ (t : List ℕ). OnErr c.write_one.result (AppendsFront (g.W.Write.contents c.args.writer.now) (g.W.Write.contents c.write_one.new.writer) t))
-    (sym (one _ c.args.change.now (posed_of c.in-Some.posed.now) c.plan.result.now (ap (option_map (λ posed. posed_of posed.now)) c.in-Some.is) (c.in-Adopt.is ∙ ap Adopt (sym c.plan.ensures)))) c.write_one.ensures.begun
+    (sym (one _ c.args.change.now (posed_of c.in-Some.posed.now) c.plan.result.now
+    (ap (option_map (λ posed. posed_of posed.now)) c.in-Some.is) (c.in-Adopt.is ∙ ap Adopt (sym c.plan.ensures))))
+    c.write_one.ensures.begun

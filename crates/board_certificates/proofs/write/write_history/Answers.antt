@@ -29,8 +29,12 @@ write_entry-requires g c = subst IsSized (sym (lent c.as_ref.result c.loop-numbe
 pub follow-requires : goal.follow-requires
 follow-requires g c =
     let near : c.loop-number.number < length c.args.history.now.entries = omega arith in
-    let e = shown_entry c.at-entry.result in
-    (c.loop-number.invariant.state, c.loop-number.invariant.replayed, allowed _ _ _ _ _ _ _ _ e near (get_or_from_slice_get c.args.history.now.entries c.loop-number.number e e c.at-entry.ensures) c.loop-number.invariant)
+    let e = shown_entry c.at-entry.result in (
+      c.loop-number.invariant.state,
+      c.loop-number.invariant.replayed,
+      allowed _ _ _ _ _ _ _ _ e near (get_or_from_slice_get c.args.history.now.entries c.loop-number.number e e c.at-entry.ensures)
+          c.loop-number.invariant,
+    )
 
 pub returns-in_err-write_entry-clause-begun : goal.returns-in_err-write_entry-clause-begun
 returns-in_err-write_entry-clause-begun g c =
@@ -38,8 +42,11 @@ returns-in_err-write_entry-clause-begun g c =
     let e = shown_entry c.at-entry.result in
     let same = lent c.as_ref.result c.loop-number.last c.as_ref.ensures.value in
     let failed = err_from_is_err_and c.from_residual-in_err-write_entry.result c.from_residual-in_err-write_entry.ensures.1 in
-    rw failed.1 (at_front _ _ _ _ _ _ _ _ e near (get_or_from_slice_get c.args.history.now.entries c.loop-number.number e e c.at-entry.ensures) c.loop-number.invariant (g.W.Write.contents c.write_entry.new.writer)
-    (subst (λ (posed : Option PosedData). AppendsFront (g.W.Write.contents c.loop-number.writer) (g.W.Write.contents c.write_entry.new.writer) (texts (certified_by posed e.change))) same c.in_err-write_entry.ensures.begun))
+    rw failed.1 (at_front _ _ _ _ _ _ _ _ e near
+    (get_or_from_slice_get c.args.history.now.entries c.loop-number.number e e c.at-entry.ensures) c.loop-number.invariant
+    (g.W.Write.contents c.write_entry.new.writer)
+    (subst (λ (posed : Option PosedData). AppendsFront (g.W.Write.contents c.loop-number.writer)
+    (g.W.Write.contents c.write_entry.new.writer) (texts (certified_by posed e.change))) same c.in_err-write_entry.ensures.begun))
 
 pub returns-in_err-last-clause-begun : goal.returns-in_err-last-clause-begun
 returns-in_err-last-clause-begun g c =
@@ -47,8 +54,11 @@ returns-in_err-last-clause-begun g c =
     let e = shown_entry c.at-entry.result in
     let same = lent c.as_ref.result c.loop-number.last c.as_ref.ensures.value in
     let failed = err_from_is_err_and c.from_residual-in_err-last.result c.from_residual-in_err-last.ensures.1 in
-    rw failed.1 (written_at _ _ _ _ _ _ _ _ e near (get_or_from_slice_get c.args.history.now.entries c.loop-number.number e e c.at-entry.ensures) c.loop-number.invariant (g.W.Write.contents c.write_entry.new.writer)
-    (subst (λ (posed : Option PosedData). Appends (g.W.Write.contents c.loop-number.writer) (g.W.Write.contents c.write_entry.new.writer) (texts (certified_by posed e.change))) same c.in_ok-write_entry.ensures.written))
+    rw failed.1 (written_at _ _ _ _ _ _ _ _ e near
+    (get_or_from_slice_get c.args.history.now.entries c.loop-number.number e e c.at-entry.ensures) c.loop-number.invariant
+    (g.W.Write.contents c.write_entry.new.writer)
+    (subst (λ (posed : Option PosedData). Appends (g.W.Write.contents c.loop-number.writer) (g.W.Write.contents c.write_entry.new.writer)
+    (texts (certified_by posed e.change))) same c.in_ok-write_entry.ensures.written))
 
 pub loop-number-preserved : goal.loop-number-preserved
 loop-number-preserved g c =
@@ -58,7 +68,8 @@ loop-number-preserved g c =
     let item = get_or_from_slice_get c.args.history.now.entries c.loop-number.number e e c.at-entry.ensures in
     let same = lent c.as_ref.result c.loop-number.last c.as_ref.ensures.value in
     at_next _ _ _ _ _ _ _ _ e near item at (g.W.Write.contents c.write_entry.new.writer) c.follow.new.replay (option_map posed_of c.in_ok-last.last)
-    (subst (λ (posed : Option PosedData). Appends (g.W.Write.contents c.loop-number.writer) (g.W.Write.contents c.write_entry.new.writer) (texts (certified_by posed e.change))) same c.in_ok-write_entry.ensures.written)
+    (subst (λ (posed : Option PosedData). Appends (g.W.Write.contents c.loop-number.writer) (g.W.Write.contents c.write_entry.new.writer)
+    (texts (certified_by posed e.change))) same c.in_ok-write_entry.ensures.written)
     (subst (λ (posed : Option PosedData). All IsWritable (certified_by posed e.change)) same c.in_ok-write_entry.ensures.writable)
     (c.in_ok-last.ensures.posed at.state at.replayed)
     (c.in_ok-last.ensures.replayed at.state at.replayed (allowed _ _ _ _ _ _ _ _ e near item at))

@@ -1,4 +1,5 @@
-use Rattle.std.proofs.Common.{◌≡◌, ◌∙◌, ◌<◌, ◌≤◌, ◌+◌, ◌++◌, ℕ, Bool, true, false, List, Option, Some, None, ap, arith, drop, get_or, length, length-append, refl, subst, sym, ⊎_elim}
+use Rattle.std.proofs.Common.{◌≡◌, ◌∙◌, ◌<◌, ◌≤◌, ◌+◌, ◌++◌, ℕ, Bool, true, false, List, Option}
+use Rattle.std.proofs.Common.{Some, None, ap, arith, drop, get_or, length, length-append, refl, subst, sym, ⊎_elim}
 use Rattle.std.proofs.Math.Seq.{drop-append_seam}
 use Rattle.std.proofs.lemmas.Bool.{both_ways, cases_lt, eqb-true}
 use Rattle.std.proofs.lemmas.List.{get_or_append_left, get_or-append-add}
@@ -25,7 +26,8 @@ whole interval flag n seconds inside digits end =
     let text : List ℕ = interval ++ flag_text flag in
     let long : length interval < length text = simp length-append (omega (arith, some_flag flag)) in
     let after : get_or text (length interval + 0) 0 ≡ 10 = get_or-append-add interval (flag_text flag) 0 0 ∙ newline flag in
-    let there : get_or text (length interval) 0 ≡ 10 = ap (λ (k : ℕ). get_or text k 0) (let same : length interval ≡ length interval + 0 = omega arith in same) ∙ after in
+    let there : get_or text (length interval) 0 ≡ 10 =
+    ap (λ (k : ℕ). get_or text k 0) (let same : length interval ≡ length interval + 0 = omega arith in same) ∙ after in
     ⊎_elim (λ (short : n < length interval).
     absurd (both_ways (is_digit (get_or text n 0)) (end (omega (arith, short, long)))
     (ap is_digit (get_or_append_left interval (flag_text flag) 0 n short) ∙ seconds.digits n short)))

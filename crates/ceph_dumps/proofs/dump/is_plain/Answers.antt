@@ -10,6 +10,7 @@ use Rattle.ceph_dumps.proofs.dump.is_plain.Goals as goal
 pub returns-then-greatest-lt128 : goal.returns-then-greatest-lt128
 returns-then-greatest-lt128 c = λ none.
     let small : All (λ byte. byte < 128) c.args.bytes.now =
-    All-weaker (λ byte. byte ≤ c.greatest.result) (λ byte. byte < 128) (λ byte within. omega (arith, c.if-greatest-lt128.true)) c.args.bytes.now c.greatest.ensures in
+    All-weaker (λ byte. byte ≤ c.greatest.result) (λ byte. byte < 128) (λ byte within. omega (arith, c.if-greatest-lt128.true))
+    c.args.bytes.now c.greatest.ensures in
     let has_none : HasNoWord c.args.bytes.now = c.may_have_words.ensures (not-true c.may_have_words.result none) in
     ap (λ text. written_over 0 Bare text) (wide-plain c.args.bytes.now small) ∙ stays c.args.bytes.now Bare has_none

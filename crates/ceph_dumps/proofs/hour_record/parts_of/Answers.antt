@@ -4,7 +4,8 @@ use Rattle.ceph_dumps.specs.OwnList.{behind_digits}
 use Rattle.ceph_dumps.proofs.hour_record.parts_of.Goals as goal
 
 pub returns-in_default : goal.returns-in_default
-returns-in_default c = λ are. c.in_default.ensures (subst IsHeatText (sym (c.split_at.ensures.front ∙ ap (λ (k : ℕ). take k c.args.line.now) c.digit_count.ensures.count)) are.0)
+returns-in_default c = λ are. c.in_default.ensures
+    (subst IsHeatText (sym (c.split_at.ensures.front ∙ ap (λ (k : ℕ). take k c.args.line.now) c.digit_count.ensures.count)) are.0)
 
 begins : (xs : List ℕ) → slice_index xs 0 ≡ 32 → xs ≡ 32 ∷ drop 1 xs
 begins [] is = absurd (omega (arith, is))

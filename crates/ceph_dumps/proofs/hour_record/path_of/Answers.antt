@@ -5,5 +5,6 @@ use Rattle.ceph_dumps.proofs.hour_record.path_of.Goals as goal
 
 pub returns-then-not-has_backslash : goal.returns-then-not-has_backslash
 returns-then-not-has_backslash c =
-    subst (λ (bytes : List ℕ). IfOk c.from_slice.result (λ path. path.items ≡ bytes)) (sym (named_plain c.args.name.now (sym c.has_backslash.ensures ∙ c.if-not-has_backslash.true)))
+    subst (λ (bytes : List ℕ). IfOk c.from_slice.result (λ path. path.items ≡ bytes))
+    (sym (named_plain c.args.name.now (sym c.has_backslash.ensures ∙ c.if-not-has_backslash.true)))
     c.from_slice.ensures.items

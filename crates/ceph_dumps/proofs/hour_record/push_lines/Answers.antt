@@ -12,4 +12,5 @@ returns c =
     let end : c.loop-past.past-index ≡ length heats = omega (arith, c.loop-past-test.false, c.loop-past.auto.past-index-end) in
     c.loop-past.invariant
     ∙ ap (λ (text : List ℕ). c.args.text.now.items ++ text)
-    (ap (flat_map (λ (past : PastHeat). heat_line (heat_path past))) (ap (λ (n : ℕ). take n heats) end ∙ take-length heats) ∙ sym (flat_map-map heat_line heat_path heats))
+    (ap (flat_map (λ (past : PastHeat). heat_line (heat_path past))) (ap (λ (n : ℕ). take n heats) end ∙ take-length heats)
+    ∙ sym (flat_map-map heat_line heat_path heats))

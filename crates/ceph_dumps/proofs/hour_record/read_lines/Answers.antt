@@ -20,7 +20,8 @@ returns-in_err-read_heats-clause-refused c = λ number is line.
     let refused : IsErrOf c.read_heats.result (Hour number) = search rules in
     let told = c.read_heats.ensures.refused number refused in
     let rest : c.split_at.result.1.now ≡ drop 3 ls = c.split_at.ensures.back ∙ (ap (λ (n : ℕ). drop n ls) c.min.ensures ∙ drop_min 3 ls) in
-    told.2 (subst (λ (those : List (List ℕ)). IsHeatLine (line_at those told.0)) (sym (rest_is ls c.split_at.result.1.now rest)) (heat_line_at (map now ls) told.0 number told.1 line))
+    told.2 (subst (λ (those : List (List ℕ)). IsHeatLine (line_at those told.0)) (sym (rest_is ls c.split_at.result.1.now rest))
+    (heat_line_at (map now ls) told.0 number told.1 line))
 
 pub returns-clause-hour : goal.returns-clause-hour
 returns-clause-hour c =
@@ -29,7 +30,8 @@ returns-clause-hour c =
     let those : map now c.split_at.result.1.now ≡ drop 3 (map now ls) = rest_is ls c.split_at.result.1.now rest in
     record {
       first = search rules;
-      second = subst (λ (line : List ℕ). AreTwoWords line (string_bytes c.in_ok-read_file_system.field-0.name) (string_bytes c.in_ok-read_file_system.field-0.fsid)) c.line_at-2.ensures c.in_ok-read_file_system.ensures.words;
+      second = subst (λ (line : List ℕ). AreTwoWords line (string_bytes c.in_ok-read_file_system.field-0.name)
+          (string_bytes c.in_ok-read_file_system.field-0.fsid)) c.line_at-2.ensures c.in_ok-read_file_system.ensures.words;
       third = subst IsSpreadLine c.line_at-3.ensures c.in_ok-read_spread.ensures.line;
       spread = c.in_ok-read_spread.ensures.heats ∙ ap spread_of c.line_at-3.ensures;
       others = subst (All IsHeatLine) those c.in_ok-read_heats.ensures.lines;

@@ -18,7 +18,8 @@ loop-at-preserved c =
           (subst (λ (one : Bor (List ℕ)). IsHeatText one.now) c.index.ensures c.in-Some.ensures.0);
       heats = c.in_ok-push.ensures.items
           ∙ (ap (λ (before : List ℕ). before ++ c.in-Some.heat ∷ []) c.loop-at.invariant.heats
-          ∙ (ap (λ (heat : ℕ). map (λ (one : Bor (List ℕ)). digits_value 10 one.now) (take at words) ++ heat ∷ []) (c.in-Some.ensures.1 ∙ ap (λ (one : Bor (List ℕ)). digits_value 10 one.now) c.index.ensures)
+          ∙ (ap (λ (heat : ℕ). map (λ (one : Bor (List ℕ)). digits_value 10 one.now) (take at words) ++ heat ∷ [])
+          (c.in-Some.ensures.1 ∙ ap (λ (one : Bor (List ℕ)). digits_value 10 one.now) c.index.ensures)
           ∙ sym (map_more (λ (one : Bor (List ℕ)). digits_value 10 one.now) words at word inside)));
     }
 
@@ -31,7 +32,8 @@ returns-in_default-clause-refused c = λ number is. (
       let inside : at < length words = omega (arith, c.loop-at-test.true, c.len-at-end.ensures) in
       let there : at < length (map (λ (one : Bor (List ℕ)). one.now) words) = omega (arith, inside, length-map words (λ (one : Bor (List ℕ)). one.now)) in
       let all : All IsHeatText (map (λ (one : Bor (List ℕ)). one.now) words) = subst (All IsHeatText) (sym c.in_ok-words.ensures) fine.numbers in
-      c.in_default.ensures (subst IsHeatText (get_or-map (λ (one : Bor (List ℕ)). one.now) words at c.index.result.now [] inside ∙ ap (λ (one : Bor (List ℕ)). one.now) (sym c.index.ensures))
+      c.in_default.ensures (subst IsHeatText (get_or-map (λ (one : Bor (List ℕ)). one.now) words at c.index.result.now [] inside
+      ∙ ap (λ (one : Bor (List ℕ)). one.now) (sym c.index.ensures))
       (All-get_or IsHeatText (map (λ (one : Bor (List ℕ)). one.now) words) at [] there all)),
 )
 
@@ -43,9 +45,12 @@ returns-clause-line c =
     let words : List (Bor (List ℕ)) = c.in_ok-words.words.items in
     let all : take c.loop-at.at words ≡ words = end words c.loop-at.at (omega (arith, c.loop-at-test.false, c.loop-at.auto.at-end, c.len-at-end.ensures)) in
     record {
-      ranks = sym (ap length c.in_ok-words.ensures) ∙ (length-map words (λ (one : Bor (List ℕ)). one.now) ∙ (let is : length words ≡ 64 = omega (arith, c.if-len-from.false, c.len.ensures, c.from.ensures) in is));
+      ranks = sym (ap length c.in_ok-words.ensures)
+          ∙ (length-map words (λ (one : Bor (List ℕ)). one.now)
+          ∙ (let is : length words ≡ 64 = omega (arith, c.if-len-from.false, c.len.ensures, c.from.ensures) in is));
       numbers = subst (All IsHeatText) c.in_ok-words.ensures
-          (All-map IsHeatText (λ (one : Bor (List ℕ)). one.now) words (subst (All (λ (one : Bor (List ℕ)). IsHeatText one.now)) all c.loop-at.invariant.numbers));
+          (All-map IsHeatText (λ (one : Bor (List ℕ)). one.now) words
+          (subst (All (λ (one : Bor (List ℕ)). IsHeatText one.now)) all c.loop-at.invariant.numbers));
     }
 
 pub returns-clause-heats : goal.returns-clause-heats

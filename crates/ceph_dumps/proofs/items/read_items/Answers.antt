@@ -28,7 +28,8 @@ loop-alloc-preserved g c =
     let going : (after_end_array l.reader ≡ None) × (c.take_end_array.new.self ≡ l.reader) = grind arith in
     let less : length r < length l.reader = rw (← going.1) c.in_ok-item.ensures.less in
     let pushed : c.push.new.self.items ≡ l.found.items ++ item ∷ [] = search rules in
-    let turn = item_turn said p (map shown l.found.items) n l.reader r (shown item) (omega (arith, l.invariant.1, less)) going.0 (rw (← going.1) c.in_ok-item.ensures.is) in
+    let turn = item_turn said p (map shown l.found.items) n l.reader r (shown item) (omega (arith, l.invariant.1, less)) going.0
+    (rw (← going.1) c.in_ok-item.ensures.is) in
     let both = sym (ap (map shown) pushed ∙ map-append shown l.found.items (item ∷ [])) in (
       n - 1,
       omega (arith, l.invariant.1, less),
@@ -40,4 +41,5 @@ pub returns-clause-is : goal.returns-clause-is
 returns-clause-is g c =
     let l = c.loop-alloc in
     l.invariant.2
-    ∙ items_over g.T.Item.said (value c.args.depth) (map g.T.Item.shown l.found.items) l.invariant.0 l.reader c.take_end_array.new.self l.invariant.1 (grind arith)
+    ∙ items_over g.T.Item.said (value c.args.depth) (map g.T.Item.shown l.found.items) l.invariant.0 l.reader c.take_end_array.new.self
+    l.invariant.1 (grind arith)

@@ -21,7 +21,8 @@ returns-in_err-key-clause-none g c =
     let l = c.loop-found in
     rw e.1 (λ other.
     l.invariant.2
-    ∙ ap (behind g.T.Item.kept l.found.items) (members_no_key (value c.args.depth) l.invariant.0 l.reader (c.in_err-key.ensures.none (λ memory. other (e.2 ∙ memory)))))
+    ∙ ap (behind g.T.Item.kept l.found.items)
+    (members_no_key (value c.args.depth) l.invariant.0 l.reader (c.in_err-key.ensures.none (λ memory. other (e.2 ∙ memory)))))
 
 pub returns-in_err-value-clause-none : goal.returns-in_err-value-clause-none
 returns-in_err-value-clause-none g c =
@@ -94,5 +95,6 @@ pub returns-clause-is : goal.returns-clause-is
 returns-clause-is g c =
     let l = c.loop-found in
     let s = c.next_key.new.reader in
-    let comes : read_key l.reader ≡ Some (None, s) = c.in_ok-key.ensures.is ∙ ap (λ (o : Option (Bor (List ℕ))). Some (option_map (λ text. text.now) o, s)) c.in_default.is in
+    let comes : read_key l.reader ≡ Some (None, s) = c.in_ok-key.ensures.is
+    ∙ ap (λ (o : Option (Bor (List ℕ))). Some (option_map (λ text. text.now) o, s)) c.in_default.is in
     l.invariant.2 ∙ all_passed g.T.Item.kept l.found.items (value c.args.depth) l.invariant.0 l.reader s l.invariant.1 comes

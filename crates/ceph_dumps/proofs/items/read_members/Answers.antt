@@ -4,7 +4,8 @@ use Rattle.json.specs.Json.{members, read_key, value}
 use Rattle.json.proofs.Grammar.{read_key-shorter}
 use Rattle.ceph_dumps.specs.Members.{list_of}
 use Rattle.ceph_dumps.specs.Reading.{said_of}
-use Rattle.ceph_dumps.proofs.Saying.{key_refused, list_refused, list_turn, members_behind, members_over, none_found, skip_refused, skip_turn, some_found, twice_found}
+use Rattle.ceph_dumps.proofs.Saying.{key_refused, list_refused, list_turn, members_behind, members_over}
+use Rattle.ceph_dumps.proofs.Saying.{none_found, skip_refused, skip_turn, some_found, twice_found}
 use Rattle.ceph_dumps.proofs.items.read_members.Goals as goal
 
 pub returns-in_err-key-clause-none : goal.returns-in_err-key-clause-none
@@ -67,7 +68,8 @@ returns-then-is_some-clause-none g c = λ _.
     let same : bytes_eq key name ≡ true = grind (arith, c.ne.ensures, c.if-ne.false) in
     let shorter = read_key-shorter l.reader (Some key) s comes in
     l.invariant.2
-    ∙ twice_found said name p n key l.reader s comes (option_map (λ list. map g.T.Item.shown list.items) l.found) (some_found (λ list. map g.T.Item.shown list.items) l.found (sym c.is_some.ensures ∙ c.if-is_some.true))
+    ∙ twice_found said name p n key l.reader s comes (option_map (λ list. map g.T.Item.shown list.items) l.found)
+    (some_found (λ list. map g.T.Item.shown list.items) l.found (sym c.is_some.ensures ∙ c.if-is_some.true))
     (omega (arith, l.invariant.1, shorter)) same
 
 pub returns-in_err-read_list-clause-none : goal.returns-in_err-read_list-clause-none
@@ -118,5 +120,6 @@ returns-clause-is g c =
     let l = c.loop-found in
     let s = c.next_key.new.reader in
     let found = option_map (λ list. map g.T.Item.shown list.items) l.found in
-    let comes : read_key l.reader ≡ Some (None, s) = c.in_ok-key.ensures.is ∙ ap (λ (o : Option (Bor (List ℕ))). Some (option_map (λ text. text.now) o, s)) c.in_default.is in
+    let comes : read_key l.reader ≡ Some (None, s) = c.in_ok-key.ensures.is
+    ∙ ap (λ (o : Option (Bor (List ℕ))). Some (option_map (λ text. text.now) o, s)) c.in_default.is in
     l.invariant.2 ∙ members_over (list_of g.T.Item.said) c.args.name.now (value c.args.depth) l.invariant.0 l.reader s found l.invariant.1 comes

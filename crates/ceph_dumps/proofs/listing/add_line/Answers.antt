@@ -27,4 +27,5 @@ returns-clause-lines c = λ lines was.
     let below : line_below above line ≡ (above, line) ∷ [] = rw (said_line line (no_name line c.in_default.ensures) no_gap) refl in
     let pushed : c.push.new.self.items ≡ c.args.found.now.items ++ dir ∷ [] = c.in_ok-push.ensures.items in
     subst (λ (more : List NamedLine). AreOneForOne IsListedAs (lines ++ more) c.push.new.self.items) (sym below)
-    (subst (AreOneForOne IsListedAs (lines ++ (above, line) ∷ [])) (sym pushed) (one_more IsListedAs lines c.args.found.now.items (above, line) dir was c.in_ok-listed.ensures.is))
+    (subst (AreOneForOne IsListedAs (lines ++ (above, line) ∷ [])) (sym pushed)
+    (one_more IsListedAs lines c.args.found.now.items (above, line) dir was c.in_ok-listed.ensures.is))

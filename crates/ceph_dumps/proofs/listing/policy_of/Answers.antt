@@ -7,7 +7,8 @@ use Rattle.ceph_dumps.proofs.listing.policy_of.Goals as goal
 pub returns-then-is_zero : goal.returns-then-is_zero
 returns-then-is_zero c =
     let found : c.all-is_zero.result ≡ is_zero c.args.number.now =
-    all_from_yields_List (λ k. (k == 48) || (k == 46)) _ _ _ c.all-is_zero.ensures.ran (YieldsList-from_slice c.args.number.now c.iter.ensures.rest) (λ x r q k. search (rules, tests)) in
+    all_from_yields_List (λ k. (k == 48) || (k == 46)) _ _ _ c.all-is_zero.ensures.ran
+    (YieldsList-from_slice c.args.number.now c.iter.ensures.rest) (λ x r q k. search (rules, tests)) in
     let zero : is_zero c.args.number.now ≡ true = sym found ∙ c.if-is_zero.true in
     let share : IsShareText c.args.number.now = search rules in
     rw zero (share, refl)

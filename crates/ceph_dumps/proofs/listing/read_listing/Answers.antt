@@ -1,4 +1,5 @@
-use Rattle.std.proofs.Common.{◌≡◌, ◌∙◌, ◌<◌, ◌+◌, ◌++◌, ◌∷◌, ◌==◌, [], Bor, List, None, Option, Some, ℕ, ap, append-nil, append_assoc, arith, drop, get_or, length, map, refl, rules, subst, sym, take, tests}
+use Rattle.std.proofs.Common.{◌≡◌, ◌∙◌, ◌<◌, ◌+◌, ◌++◌, ◌∷◌, ◌==◌, [], Bor, List, None, Option, Some, ℕ}
+use Rattle.std.proofs.Common.{ap, append-nil, append_assoc, arith, drop, get_or, length, map, refl, rules, subst, sym, take, tests}
 use Rattle.std.specs.List.{enumerate_from, fold}
 use Rattle.std.specs.Iterator.{Yields}
 use Rattle.std.proofs.lemmas.Iterator.{YieldsList}
@@ -16,7 +17,8 @@ use Rattle.ceph_dumps.specs.declared.dump_error.DumpError.{DumpError}
 use Rattle.ceph_dumps.specs.declared.dump_error.DumpError.TheVariants.{Memory}
 use Rattle.ceph_dumps.proofs.listing.read_listing.Goals as goal
 
-value_more : (name : Option (List ℕ)) (lines : List (List ℕ)) (line : List ℕ) → value_lines name (lines ++ line ∷ []) ≡ value_lines name lines ++ line_below (fold name_after name lines) line
+value_more : (name : Option (List ℕ)) (lines : List (List ℕ)) (line : List ℕ)
+    → value_lines name (lines ++ line ∷ []) ≡ value_lines name lines ++ line_below (fold name_after name lines) line
 value_more name [] line = append-nil (line_below name line)
 value_more name (first ∷ lines) line =
     ap (λ more. line_below name first ++ more) (value_more (name_after name first) lines line)
@@ -71,12 +73,15 @@ loop-at-preserved c =
     let line : List ℕ = c.in-Some.line.now in
     let before : List (List ℕ) = map now c.loop-at.yielded in
     let name : Option (List ℕ) = fold name_after None before in
-    let more : map now (c.loop-at.yielded ++ (c.in-Some.at, c.in-Some.line) ∷ []) ≡ before ++ line ∷ [] = map-append now c.loop-at.yielded ((c.in-Some.at, c.in-Some.line) ∷ []) in
+    let more : map now (c.loop-at.yielded ++ (c.in-Some.at, c.in-Some.line) ∷ []) ≡ before
+    ++ line ∷ [] = map-append now c.loop-at.yielded ((c.in-Some.at, c.in-Some.line) ∷ []) in
     let above : fold name_after None (before ++ line ∷ []) ≡ name_after name line = fold-append name_after None before (line ∷ []) in
     record {
-      name = c.in_ok-name.ensures.name ∙ (ap (λ (one : Option (List ℕ)). name_after one line) c.loop-at.invariant.name ∙ sym (ap (fold name_after None) more ∙ above));
+      name = c.in_ok-name.ensures.name
+          ∙ (ap (λ (one : Option (List ℕ)). name_after one line) c.loop-at.invariant.name ∙ sym (ap (fold name_after None) more ∙ above));
       lines = subst (λ lines. AreOneForOne IsListedAs lines c.add_line.new.found.items) (sym (ap (value_lines None) more ∙ value_more None before line))
-          (subst (λ (one : Option (List ℕ)). AreOneForOne IsListedAs (value_lines None before ++ line_below one line) c.add_line.new.found.items) c.loop-at.invariant.name
+          (subst (λ (one : Option (List ℕ)). AreOneForOne IsListedAs (value_lines None before ++ line_below one line)
+          c.add_line.new.found.items) c.loop-at.invariant.name
           (c.in_ok-name.ensures.lines (value_lines None before) c.loop-at.invariant.lines));
     }
 
@@ -85,7 +90,9 @@ returns-clause-values c =
     let lines : List (List ℕ) = list_lines c.args.bytes.now in
     let end = YieldsList-end
     (YieldsList-at c.into_iter-at-iterator.ensures.into_iter_gives (YieldsList-from_enumerate
-    (YieldsList-at c.enumerate-at-items.ensures.source (YieldsList-from_slice_split _ (λ byte. byte == 10) c.args.bytes.now c.split.ensures.rest c.split.ensures.done c.split.ensures.closure (λ x r q k. search (rules, tests))))
+    (YieldsList-at c.enumerate-at-items.ensures.source
+    (YieldsList-from_slice_split _ (λ byte. byte == 10) c.args.bytes.now c.split.ensures.rest c.split.ensures.done
+    c.split.ensures.closure (λ x r q k. search (rules, tests))))
     c.enumerate-at-items.ensures.count))
     c.loop-at.yielded _ c.loop-at.yielded_by _ _ c.in-None.is c.next.ensures.steps in
     let all : map now c.loop-at.yielded ≡ lines =
@@ -103,7 +110,9 @@ returns-in_err-name-clause-refused c =
     let error : DumpError = c.in_err-name.field-0.0 in
     let turn = this_turn
     (YieldsList-at c.into_iter-at-iterator.ensures.into_iter_gives (YieldsList-from_enumerate
-    (YieldsList-at c.enumerate-at-items.ensures.source (YieldsList-from_slice_split _ (λ byte. byte == 10) c.args.bytes.now c.split.ensures.rest c.split.ensures.done c.split.ensures.closure (λ x r q k. search (rules, tests))))
+    (YieldsList-at c.enumerate-at-items.ensures.source
+    (YieldsList-from_slice_split _ (λ byte. byte == 10) c.args.bytes.now c.split.ensures.rest c.split.ensures.done
+    c.split.ensures.closure (λ x r q k. search (rules, tests))))
     c.enumerate-at-items.ensures.count))
     c.loop-at.yielded _ c.loop-at.yielded_by _ _ (c.in-Some.at, c.in-Some.line) c.in-Some.is c.next.ensures.steps in
     let parts = turn_parts lines yielded (at, line) turn.0 turn.1 turn.2 in

@@ -6,7 +6,8 @@ returns-in_default c = λ value. no_quote c.args.line.now value c.in_default.ens
 
 pub returns-in-None : goal.returns-in-None
 returns-in-None c =
-    no_attribute c.args.line.now c.in-Some.value.now c.in-Some.ensures c.in_default-after.ensures c.in_default-after-2.ensures c.in_default-after-3.ensures c.in-None.ensures
+    no_attribute c.args.line.now c.in-Some.value.now c.in-Some.ensures c.in_default-after.ensures c.in_default-after-2.ensures
+    c.in_default-after-3.ensures c.in-None.ensures
 
 pub returns-in-Some-after-4 : goal.returns-in-Some-after-4
 returns-in-Some-after-4 c =

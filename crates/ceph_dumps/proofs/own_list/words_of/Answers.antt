@@ -10,4 +10,5 @@ begins (x ∷ y ∷ xs) blank slash = ap (λ (c : ℕ). c ∷ y ∷ xs) blank �
 pub returns-in-None : goal.returns-in-None
 returns-in-None c = λ are.
     c.in-None.ensures (drop 2 (behind_digits c.args.line.now))
-    ((c.split_at.ensures.back ∙ ap (λ (k : ℕ). drop k c.args.line.now) c.digit_count.ensures.count) ∙ begins (behind_digits c.args.line.now) are.blank are.slash)
+    ((c.split_at.ensures.back ∙ ap (λ (k : ℕ). drop k c.args.line.now) c.digit_count.ensures.count)
+    ∙ begins (behind_digits c.args.line.now) are.blank are.slash)

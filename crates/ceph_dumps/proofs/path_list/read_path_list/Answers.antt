@@ -24,17 +24,20 @@ loop-at-preserved c =
       paths = c.in_ok-push_path.ensures.paths
           ∙ (ap (λ before. before ++ line_paths line.now) c.loop-at.invariant.paths
           ∙ (flat_map_more (λ (one : Bor (List ℕ)). line_paths one.now) [] (take at lines) line
-          ∙ ap (flat_map (λ (one : Bor (List ℕ)). line_paths one.now)) (sym (take_more lines at line inside ∙ ap (λ (one : Bor (List ℕ)). take at lines ++ one ∷ []) (sym c.index.ensures)))));
+          ∙ ap (flat_map (λ (one : Bor (List ℕ)). line_paths one.now))
+          (sym (take_more lines at line inside ∙ ap (λ (one : Bor (List ℕ)). take at lines ++ one ∷ []) (sym c.index.ensures)))));
     }
 
 pub returns-clause-paths : goal.returns-clause-paths
 returns-clause-paths c =
     let lines : List (Bor (List ℕ)) = c.in_ok-lines.lines.items in
     let end : take c.loop-at.at lines ≡ lines =
-    ap (λ (n : ℕ). take n lines) (let same : c.loop-at.at ≡ length lines = omega (arith, c.loop-at-test.false, c.loop-at.auto.at-end, c.len-at-end.ensures) in same) ∙ take-length lines in
+    ap (λ (n : ℕ). take n lines) (let same : c.loop-at.at
+    ≡ length lines = omega (arith, c.loop-at-test.false, c.loop-at.auto.at-end, c.len-at-end.ensures) in same) ∙ take-length lines in
     record {
       lines = subst (All IsPathLine) c.in_ok-lines.ensures
-          (All-map IsPathLine (λ (line : Bor (List ℕ)). line.now) lines (subst (All (λ (line : Bor (List ℕ)). IsPathLine line.now)) end c.loop-at.invariant.lines));
+          (All-map IsPathLine (λ (line : Bor (List ℕ)). line.now) lines
+          (subst (All (λ (line : Bor (List ℕ)). IsPathLine line.now)) end c.loop-at.invariant.lines));
       each = c.loop-at.invariant.paths
           ∙ (ap (flat_map (λ (line : Bor (List ℕ)). line_paths line.now)) end
           ∙ (sym (flat_map-map line_paths (λ (line : Bor (List ℕ)). line.now) lines)

@@ -16,7 +16,8 @@ more bytes i m n b lt at all is =
 
 pub loop-byte-preserved : goal.loop-byte-preserved
 loop-byte-preserved c =
-    more c.args.bytes.now c.loop-byte.byte-index c.loop-byte.greatest c.max-greatest.result _ c.loop-byte-test.true refl c.loop-byte.invariant c.max-greatest.ensures
+    more c.args.bytes.now c.loop-byte.byte-index c.loop-byte.greatest c.max-greatest.result _ c.loop-byte-test.true refl
+    c.loop-byte.invariant c.max-greatest.ensures
 
 pub returns : goal.returns
 returns c =

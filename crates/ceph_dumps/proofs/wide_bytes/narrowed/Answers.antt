@@ -16,7 +16,8 @@ returns c =
 pub returns-then-greatest-lt128 : goal.returns-then-greatest-lt128
 returns-then-greatest-lt128 c =
     let small : All (λ byte. byte < 128) c.args.text.now =
-    All-weaker (λ byte. byte ≤ c.greatest.result) (λ byte. byte < 128) (λ byte within. omega (arith, c.if-greatest-lt128.true)) c.args.text.now c.greatest.ensures in
+    All-weaker (λ byte. byte ≤ c.greatest.result) (λ byte. byte < 128) (λ byte within. omega (arith, c.if-greatest-lt128.true))
+    c.args.text.now c.greatest.ensures in
     record {
       is = IfOk-weaker c.from_slice.result _ _ (λ found same. same ∙ sym (narrow-plain c.args.text.now small)) c.from_slice.ensures.items;
       back = IfOk-weaker c.from_slice.result _ _

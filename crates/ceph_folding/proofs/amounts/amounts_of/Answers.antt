@@ -15,7 +15,8 @@ loop-directory-preserved c =
     let one : Directory = c.directory-item.result in
     let pushed : c.push.new.self.items ≡ amounts ++ c.of.result ∷ [] = c.in_ok-push.ensures.items in
     let read : slice_get ds at ≡ Some one = slice_get_read ds (length ds) at one refl c.loop-directory-test.true c.directory-item.is in
-    let here : c.of.result ≡ amount_at c.args.amount ds at = c.of.ensures ∙ sym (ap (λ (o : Option Directory). option_map_or (amount_of c.args.amount) o 0) read) in
+    let here : c.of.result ≡ amount_at c.args.amount ds at = c.of.ensures
+    ∙ sym (ap (λ (o : Option Directory). option_map_or (amount_of c.args.amount) o 0) read) in
     record {
       size = ap length pushed ∙ (length_push amounts c.of.result ∙ ap (λ (n : ℕ). n + 1) c.loop-directory.invariant.size);
       amounts = subst (λ (xs : List ℕ). (i : ℕ) → i < at + 1 → slice_index xs i ≡ amount_at c.args.amount ds i) (sym pushed)

@@ -11,7 +11,8 @@ loop-at-preserved c =
     let home : ℕ = slice_index c.args.homes.now at in
     let inside : at < length amounts = c.loop-at-test.true in
     let there : home < length amounts = c.requires.inside at inside in
-    let had : c.index.result.now ≡ slice_index sums home = get_or_read sums home c.index.result.now (subst (λ (n : ℕ). home < n) (sym c.loop-at.invariant.size) there) c.index.ensures 0 in
+    let had : c.index.result.now ≡ slice_index sums home =
+    get_or_read sums home c.index.result.now (subst (λ (n : ℕ). home < n) (sym c.loop-at.invariant.size) there) c.index.ensures 0 in
     record {
       size = length-set sums home c.in-Some.sum ∙ c.loop-at.invariant.size;
       sums = brought-more (slice_index amounts) (slice_index c.args.homes.now) sums (length amounts) at c.in-Some.sum c.loop-at.invariant.size there

@@ -11,7 +11,8 @@ returns-clause-sums c = λ there inside.
     let amounts : List ℕ = c.in_ok-amounts.amounts.items in
     let homes : ℕ → ℕ = slice_index c.args.homes.now in
     let size : length amounts ≡ length ds = c.in_ok-amounts.ensures.size in
-    let sums : (k : ℕ) → k < length amounts → slice_index c.in_ok-sums.sums.items k ≡ brought (slice_index amounts) homes (length amounts) k = rw c.deref.ensures.value at c.in_ok-sums.ensures.sums in
+    let sums : (k : ℕ) → k < length amounts → slice_index c.in_ok-sums.sums.items k
+    ≡ brought (slice_index amounts) homes (length amounts) k = rw c.deref.ensures.value at c.in_ok-sums.ensures.sums in
     sums there (subst (λ (n : ℕ). there < n) (sym size) inside)
     ∙ (ap (λ (n : ℕ). brought (slice_index amounts) homes n there) size
     ∙ brought-alike (slice_index amounts) (amount_at c.args.amount ds) homes (length ds) there c.in_ok-amounts.ensures.amounts)

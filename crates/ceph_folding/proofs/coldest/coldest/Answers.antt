@@ -23,8 +23,10 @@ returns-clause-gone c =
     let heats : List ℕ = c.in_ok-heats.heats.items in
     let stays : List Bool = c.in_ok-stays.stays.items in
     let marks : List Bool = c.in_ok-marks.field-0.items in
-    let marked : (i : ℕ) → i < length heats → is_marked marks i ≡ goes heats stays c.in-Some.last i = rw (c.deref-3.ensures.value, c.deref-4.ensures.value) at c.in_ok-marks.ensures.marks in
-    gone-marked ds heats stays marks c.in-Some.last c.in_ok-heats.ensures.size c.requires.first c.in_ok-stays.ensures.plain c.in_ok-stays.ensures.above c.in_ok-heats.ensures.rise marked
+    let marked : (i : ℕ) → i < length heats → is_marked marks i
+    ≡ goes heats stays c.in-Some.last i = rw (c.deref-3.ensures.value, c.deref-4.ensures.value) at c.in_ok-marks.ensures.marks in
+    gone-marked ds heats stays marks c.in-Some.last c.in_ok-heats.ensures.size c.requires.first c.in_ok-stays.ensures.plain
+    c.in_ok-stays.ensures.above c.in_ok-heats.ensures.rise marked
     (coldest-gone ds heats stays marks c.in-Some.last c.in_ok-heats.ensures.size c.in_ok-heats.ensures.heats c.in_ok-stays.ensures.needed marked)
 
 pub returns-clause-left : goal.returns-clause-left
@@ -36,7 +38,10 @@ returns-clause-left c =
     let gone : List Bool = c.in_ok-marks.field-0.items in
     let size : length heats ≡ n = c.in_ok-heats.ensures.size in
     let both : count_below n (λ i. not (is_marked gone i)) + count_below n (goes heats stays last) ≡ n =
-    count_both n (is_marked gone) (goes heats stays last) (λ i l. rw (c.deref-3.ensures.value, c.deref-4.ensures.value) at (c.in_ok-marks.ensures.marks i (let within : i < length c.deref-3.result.now = omega (arith, l, size, ap length c.deref-3.ensures.value) in within))) in
+    count_both n (is_marked gone) (goes heats stays last)
+    (λ i l. rw (c.deref-3.ensures.value, c.deref-4.ensures.value) at
+    (c.in_ok-marks.ensures.marks i (let within : i < length c.deref-3.result.now =
+    omega (arith, l, size, ap length c.deref-3.ensures.value) in within))) in
     let counted : (test : Key → Bool) → count_by test c.in_ok-keys.keys.items ≡ count_below (length heats) (passes heats stays test) =
     rw (c.deref.ensures.value, c.deref-2.ensures.value) at c.in_ok-keys.ensures in
     let many : n - c.args.limit ≤ count_by (λ key. is_at_most key last) c.in_ok-keys.keys.items = rw c.in-Some.is at c.in_ok-last.ensures.enough in

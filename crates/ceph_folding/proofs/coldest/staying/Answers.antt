@@ -39,7 +39,8 @@ loop-at-preserved-in-loop-at c =
       low = omega (arith, inside);
       plain = subst (λ (marks : List Bool). (i : ℕ) → at ≤ i → i < length ds → is_marked marks i ≡ false → IsPlain ds i) (sym is)
           (marked_plain ds stays at above first second (λ i low. c.loop-at.invariant.plain i (omega (arith, low))));
-      above = subst (λ (marks : List Bool). (i : ℕ) → 0 < i → at ≤ i → i < length ds → is_marked marks i ≡ true → is_marked marks (parent_at ds i) ≡ true) (sym is)
+      above = subst (λ (marks : List Bool). (i : ℕ) → 0 < i → at ≤ i → i < length ds → is_marked marks i ≡ true
+          → is_marked marks (parent_at ds i) ≡ true) (sym is)
           (marked_above ds stays at above first second (sym parent) before (λ i some low. c.loop-at.invariant.above i some (omega (arith, low))));
       needed = subst (λ (marks : List Bool). (i : ℕ) → is_marked marks i ≡ true → HasToStay ds i) (sym is)
           (marked-needed ds stays at above first second (sym parent) here c.loop-at.invariant.needed);

@@ -18,25 +18,37 @@ loop-at-preserved c =
       | then-not-gone-at w ↦
           let after : List Directory = w.put.new.directories in
           let here : slice_get after kept ≡ put_together old c.args.parents.now c.args.heats.now c.args.writes.now c.args.inodes.now at =
-          w.put.ensures.there ∙ ap (λ (o : Option Directory). option_map (with_amounts (slice_index c.args.parents.now at) (slice_index c.args.heats.now at) (slice_index c.args.writes.now at) (slice_index c.args.inodes.now at)) o) (c.loop-at.invariant.behind at (omega arith)) in
+          w.put.ensures.there ∙ ap (λ (o : Option Directory). option_map
+          (with_amounts (slice_index c.args.parents.now at) (slice_index c.args.heats.now at) (slice_index c.args.writes.now at)
+          (slice_index c.args.inodes.now at)) o) (c.loop-at.invariant.behind at (omega arith)) in
           let keeps : is_marked gone at ≡ false = w.if-not-gone-at.true in
-          let whole : (i : ℕ) → i < at + 1 → is_marked gone i ≡ false → slice_get after (kept_below (is_marked gone) i) ≡ put_together old c.args.parents.now c.args.heats.now c.args.writes.now c.args.inodes.now i =
-          put_more old before after gone c.args.parents.now c.args.heats.now c.args.writes.now c.args.inodes.now at kept keeps c.loop-at.invariant.count c.loop-at.invariant.kept w.put.ensures.before here in
+          let whole : (i : ℕ) → i < at + 1 → is_marked gone i ≡ false
+          → slice_get after (kept_below (is_marked gone) i) ≡ put_together old c.args.parents.now c.args.heats.now c.args.writes.now
+          c.args.inodes.now i =
+          put_more old before after gone c.args.parents.now c.args.heats.now c.args.writes.now c.args.inodes.now at kept keeps
+          c.loop-at.invariant.count c.loop-at.invariant.kept w.put.ensures.before here in
           record {
             size = ap length w.directories-is ∙ (w.put.ensures.size ∙ c.loop-at.invariant.size);
             count = w.kept-is ∙ (ap (λ (n : ℕ). n + 1) c.loop-at.invariant.count ∙ sym (kept_more (is_marked gone) at keeps));
             few = omega (arith, w.kept-is, c.loop-at.invariant.few);
-            behind = λ i l. ap (λ (ds : List Directory). slice_get ds i) w.directories-is ∙ (w.put.ensures.behind i (omega (arith, l)) ∙ c.loop-at.invariant.behind i (omega (arith, l)));
-            kept = subst (λ (ds : List Directory). (i : ℕ) → i < at + 1 → is_marked gone i ≡ false → slice_get ds (kept_below (is_marked gone) i) ≡ put_together old c.args.parents.now c.args.heats.now c.args.writes.now c.args.inodes.now i) (sym w.directories-is) whole;
+            behind = λ i l. ap (λ (ds : List Directory). slice_get ds i) w.directories-is
+                ∙ (w.put.ensures.behind i (omega (arith, l)) ∙ c.loop-at.invariant.behind i (omega (arith, l)));
+            kept = subst (λ (ds : List Directory). (i : ℕ) → i < at + 1 → is_marked gone i ≡ false
+                → slice_get ds (kept_below (is_marked gone) i) ≡ put_together old c.args.parents.now c.args.heats.now c.args.writes.now
+                c.args.inodes.now i) (sym w.directories-is) whole;
           }
       | else-not-gone-at w ↦
-          let whole : (i : ℕ) → i < at + 1 → is_marked gone i ≡ false → slice_get before (kept_below (is_marked gone) i) ≡ put_together old c.args.parents.now c.args.heats.now c.args.writes.now c.args.inodes.now i =
+          let whole : (i : ℕ) → i < at + 1 → is_marked gone i ≡ false
+          → slice_get before (kept_below (is_marked gone) i)
+          ≡ put_together old c.args.parents.now c.args.heats.now c.args.writes.now c.args.inodes.now i =
           put_same old before gone c.args.parents.now c.args.heats.now c.args.writes.now c.args.inodes.now at w.if-not-gone-at.false c.loop-at.invariant.kept in
           record {
             size = ap length w.directories-is ∙ c.loop-at.invariant.size;
             count = w.kept-is ∙ (c.loop-at.invariant.count ∙ sym (kept_same (is_marked gone) at w.if-not-gone-at.false));
             few = omega (arith, w.kept-is, c.loop-at.invariant.few);
             behind = λ i l. ap (λ (ds : List Directory). slice_get ds i) w.directories-is ∙ c.loop-at.invariant.behind i (omega (arith, l));
-            kept = subst (λ (ds : List Directory). (i : ℕ) → i < at + 1 → is_marked gone i ≡ false → slice_get ds (kept_below (is_marked gone) i) ≡ put_together old c.args.parents.now c.args.heats.now c.args.writes.now c.args.inodes.now i) (sym w.directories-is) whole;
+            kept = subst (λ (ds : List Directory). (i : ℕ) → i < at + 1 → is_marked gone i ≡ false
+                → slice_get ds (kept_below (is_marked gone) i) ≡ put_together old c.args.parents.now c.args.heats.now c.args.writes.now
+                c.args.inodes.now i) (sym w.directories-is) whole;
           }
     ]

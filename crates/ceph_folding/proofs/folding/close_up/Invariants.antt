@@ -9,5 +9,6 @@ invariant-loop-at l = record {
   count : l.kept ≡ kept_below (is_marked l.gone) l.at;
   few : l.kept ≤ l.at;
   behind : (i : ℕ) → l.at ≤ i → slice_get l.directories i ≡ slice_get l.fn.directories i;
-  kept : (i : ℕ) → i < l.at → is_marked l.gone i ≡ false → slice_get l.directories (kept_below (is_marked l.gone) i) ≡ put_together l.fn.directories l.parents l.heats l.writes l.inodes i;
+  kept : (i : ℕ) → i < l.at → is_marked l.gone i ≡ false
+      → slice_get l.directories (kept_below (is_marked l.gone) i) ≡ put_together l.fn.directories l.parents l.heats l.writes l.inodes i;
 }

@@ -20,7 +20,8 @@ pub returns-clause-inodes : goal.returns-clause-inodes
 returns-clause-inodes c = same_inodes _ _ _ _ c.in_ok-left.ensures.left.1
 
 pub returns-then-count-limit-clause-unpinnable : goal.returns-then-count-limit-clause-unpinnable
-returns-then-count-limit-clause-unpinnable c = λ keep. still-kept c.args.directories.items c.args.directories.items (nothing_folded c.args.directories.items) keep
+returns-then-count-limit-clause-unpinnable c = λ keep. still-kept c.args.directories.items c.args.directories.items
+    (nothing_folded c.args.directories.items) keep
 
 pub returns-clause-unpinnable : goal.returns-clause-unpinnable
 returns-clause-unpinnable c = λ keep.
@@ -28,7 +29,8 @@ returns-clause-unpinnable c = λ keep.
       is_marked c.in_ok-gone.gone.items,
       c.in_ok-left.ensures.left.0,
       subst (λ (ds : List Directory). AreGone ds (is_marked c.in_ok-gone.gone.items)) c.deref-2.ensures.value c.in_ok-gone.ensures.gone,
-      subst (λ (gone : List Bool). HasLeft c.args.directories.items c.in_ok-left.left.items (is_marked gone) c.in_ok-left.ensures.left.0) c.deref-3.ensures.value c.in_ok-left.ensures.left.1,
+      subst (λ (gone : List Bool). HasLeft c.args.directories.items c.in_ok-left.left.items (is_marked gone) c.in_ok-left.ensures.left.0)
+          c.deref-3.ensures.value c.in_ok-left.ensures.left.1,
     ) keep
 
 pub returns-then-count-limit-clause-kept : goal.returns-then-count-limit-clause-kept
@@ -40,7 +42,8 @@ returns-clause-kept c =
       is_marked c.in_ok-gone.gone.items,
       c.in_ok-left.ensures.left.0,
       subst (λ (ds : List Directory). AreGone ds (is_marked c.in_ok-gone.gone.items)) c.deref-2.ensures.value c.in_ok-gone.ensures.gone,
-      subst (λ (gone : List Bool). HasLeft c.args.directories.items c.in_ok-left.left.items (is_marked gone) c.in_ok-left.ensures.left.0) c.deref-3.ensures.value c.in_ok-left.ensures.left.1,
+      subst (λ (gone : List Bool). HasLeft c.args.directories.items c.in_ok-left.left.items (is_marked gone) c.in_ok-left.ensures.left.0)
+          c.deref-3.ensures.value c.in_ok-left.ensures.left.1,
     )
 
 pub returns-then-count-limit-clause-hours : goal.returns-then-count-limit-clause-hours
@@ -50,6 +53,8 @@ pub returns-clause-hours : goal.returns-clause-hours
 returns-clause-hours c = (
   is_marked c.in_ok-gone.gone.items,
   c.in_ok-left.ensures.left.0,
-  subst (λ (gone : List Bool). HasLeft c.args.directories.items c.in_ok-left.left.items (is_marked gone) c.in_ok-left.ensures.left.0) c.deref-3.ensures.value c.in_ok-left.ensures.left.1,
-  subst (λ (gone : List Bool). AreHoursLeft (is_marked gone) c.in_ok-left.ensures.left.0 c.args.hours.now.items c.folded.new.hours.items) c.deref-3.ensures.value c.in_ok-left.ensures.left.2,
+  subst (λ (gone : List Bool). HasLeft c.args.directories.items c.in_ok-left.left.items (is_marked gone) c.in_ok-left.ensures.left.0)
+      c.deref-3.ensures.value c.in_ok-left.ensures.left.1,
+  subst (λ (gone : List Bool). AreHoursLeft (is_marked gone) c.in_ok-left.ensures.left.0 c.args.hours.now.items c.folded.new.hours.items)
+      c.deref-3.ensures.value c.in_ok-left.ensures.left.2,
 )

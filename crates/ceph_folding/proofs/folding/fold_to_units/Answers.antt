@@ -22,10 +22,14 @@ returns-clause-units c =
     record {
       gone = is_marked gone;
       home = c.in_ok-left.ensures.left.0;
-      plain = subst (λ (those : List Directory). (i : ℕ) → i < length those → is_marked gone i ≡ true → IsPlain those i) c.deref-2.ensures.value c.in_ok-gone.ensures.plain;
-      other = subst (λ (those : List Directory). (i : ℕ) → i < length those → is_marked gone i ≡ true → is_marked c.args.units.now i ≡ false) c.deref-2.ensures.value c.in_ok-gone.ensures.other;
-      all = subst (λ (those : List Directory). (i : ℕ) → i < length those → IsPlain those i → is_marked c.args.units.now i ≡ false → is_marked gone i ≡ true) c.deref-2.ensures.value c.in_ok-gone.ensures.all;
-      has = subst (λ (marks : List Bool). HasLeft ds c.in_ok-left.left.items (is_marked marks) c.in_ok-left.ensures.left.0) c.deref-3.ensures.value c.in_ok-left.ensures.left.1;
+      plain = subst (λ (those : List Directory). (i : ℕ) → i < length those → is_marked gone i ≡ true → IsPlain those i)
+          c.deref-2.ensures.value c.in_ok-gone.ensures.plain;
+      other = subst (λ (those : List Directory). (i : ℕ) → i < length those → is_marked gone i ≡ true
+          → is_marked c.args.units.now i ≡ false) c.deref-2.ensures.value c.in_ok-gone.ensures.other;
+      all = subst (λ (those : List Directory). (i : ℕ) → i < length those → IsPlain those i → is_marked c.args.units.now i ≡ false
+          → is_marked gone i ≡ true) c.deref-2.ensures.value c.in_ok-gone.ensures.all;
+      has = subst (λ (marks : List Bool). HasLeft ds c.in_ok-left.left.items (is_marked marks) c.in_ok-left.ensures.left.0)
+          c.deref-3.ensures.value c.in_ok-left.ensures.left.1;
     }
 
 pub returns-clause-kept : goal.returns-clause-kept
@@ -51,6 +55,8 @@ pub returns-clause-hours : goal.returns-clause-hours
 returns-clause-hours c = (
   is_marked c.in_ok-gone.gone.items,
   c.in_ok-left.ensures.left.0,
-  subst (λ (gone : List Bool). HasLeft c.args.directories.items c.in_ok-left.left.items (is_marked gone) c.in_ok-left.ensures.left.0) c.deref-3.ensures.value c.in_ok-left.ensures.left.1,
-  subst (λ (gone : List Bool). AreHoursLeft (is_marked gone) c.in_ok-left.ensures.left.0 c.args.hours.now.items c.folded.new.hours.items) c.deref-3.ensures.value c.in_ok-left.ensures.left.2,
+  subst (λ (gone : List Bool). HasLeft c.args.directories.items c.in_ok-left.left.items (is_marked gone) c.in_ok-left.ensures.left.0)
+      c.deref-3.ensures.value c.in_ok-left.ensures.left.1,
+  subst (λ (gone : List Bool). AreHoursLeft (is_marked gone) c.in_ok-left.ensures.left.0 c.args.hours.now.items c.folded.new.hours.items)
+      c.deref-3.ensures.value c.in_ok-left.ensures.left.2,
 )

@@ -16,7 +16,8 @@ returns-clause-left c =
     let inodes : List ℕ = c.in_ok-inodes.inodes.items in
     let closed : List Directory = c.close_up-kept.new.directories in
     let kept : ℕ = c.close_up-kept.result in
-    let nearest : (i : ℕ) → i < length ds → IsHome ds (is_marked gone) i (slice_index homes i) = rw c.as_slice-before.ensures.value at c.in_ok-homes.ensures.homes in
+    let nearest : (i : ℕ) → i < length ds → IsHome ds (is_marked gone) i (slice_index homes i) =
+    rw c.as_slice-before.ensures.value at c.in_ok-homes.ensures.homes in
     let inside : (i : ℕ) → i < length ds → slice_index homes i < length ds = rw c.as_slice-before.ensures.value at c.in_ok-homes.ensures.inside in
     let warm : (i : ℕ) → i < length ds → slice_index heats i ≡ brought (heat_at ds) (slice_index homes) (length ds) i =
     rw (c.as_slice-before.ensures.value, c.as_slice-at_home.ensures.value) at c.in_ok-heats.ensures.sums in
@@ -27,10 +28,17 @@ returns-clause-left c =
     let ups : (i : ℕ) → i < length ds → slice_index parents i ≡ kept_below (is_marked gone) (slice_index homes (parent_at ds i)) =
     rw (c.as_slice-before.ensures.value, c.as_slice-at_home.ensures.value) at c.in_ok-parents.ensures.parents in
     let count : kept ≡ kept_below (is_marked gone) (length ds) = rw c.deref_mut.ensures.value at c.close_up-kept.ensures.count in
-    let closes : (i : ℕ) → i < length ds → is_marked gone i ≡ false → slice_get closed (kept_below (is_marked gone) i) ≡ put_together ds parents heats writes inodes i =
-    rw (c.deref_mut.ensures.value, c.deref-2.ensures.value, c.deref-3.ensures.value, c.deref-4.ensures.value, c.deref-5.ensures.value) at c.close_up-kept.ensures.kept in
+    let closes : (i : ℕ) → i < length ds → is_marked gone i ≡ false
+    → slice_get closed (kept_below (is_marked gone) i) ≡ put_together ds parents heats writes inodes i =
+    rw (c.deref_mut.ensures.value, c.deref-2.ensures.value, c.deref-3.ensures.value, c.deref-4.ensures.value, c.deref-5.ensures.value) at
+    c.close_up-kept.ensures.kept in
     let all : length closed ≡ length ds = c.close_up-kept.ensures.size ∙ ap length c.deref_mut.ensures.value in
-    let is : c.truncate.new.self.items ≡ take kept closed = c.truncate.ensures.items ∙ ap (take kept) (handed_back closed _ _ (all ∙ sym c.args.directories.ok.0)) in
+    let is : c.truncate.new.self.items ≡ take kept closed = c.truncate.ensures.items
+    ∙ ap (take kept) (handed_back closed _ _ (all ∙ sym c.args.directories.ok.0)) in
     let then : AreHoursLeft (is_marked gone) (slice_index homes) c.args.hours.now.items c.in_ok-then.then.items =
-    rw (c.deref.ensures.value, c.as_slice-at_home.ensures.value) at c.in_ok-then.ensures in
-    (slice_index homes, has_left ds closed c.truncate.new.self.items gone homes parents heats writes inodes kept nearest inside count closes ups warm wrote many all is, then)
+    rw (c.deref.ensures.value, c.as_slice-at_home.ensures.value) at c.in_ok-then.ensures in (
+      slice_index homes,
+      has_left ds closed c.truncate.new.self.items gone homes parents heats writes inodes kept nearest inside count closes
+          ups warm wrote many all is,
+      then,
+    )

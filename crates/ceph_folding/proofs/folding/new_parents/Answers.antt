@@ -1,4 +1,5 @@
-use Rattle.std.proofs.Common.{◌≡◌, ◌<◌, ◌≤◌, ◌+◌, ◌++◌, ◌∷◌, [], ◌∙◌, ℕ, Bool, List, Option, Some, length, slice_get, slice_index, suc-le-suc, ap, refl, sym, subst, arith}
+use Rattle.std.proofs.Common.{◌≡◌, ◌<◌, ◌≤◌, ◌+◌, ◌++◌, ◌∷◌, [], ◌∙◌, ℕ, Bool, List}
+use Rattle.std.proofs.Common.{Option, Some, length, slice_get, slice_index, suc-le-suc, ap, refl, sym, subst, arith}
 use Rattle.std.specs.Option.{option_map_or}
 use Rattle.std.specs.Vec.{vec_len}
 use Rattle.std.proofs.Math.Nat.{le_trans}
@@ -16,11 +17,13 @@ index-requires c =
     let ds : List Directory = c.args.directories.now in
     let at : ℕ = c.loop-at.at in
     let inside : at < length ds = c.loop-at-test.true in
-    let read : slice_get ds at ≡ Some c.index-directories-at.result = slice_get_read ds (length ds) at c.index-directories-at.result refl inside c.index-directories-at.is in
+    let read : slice_get ds at ≡ Some c.index-directories-at.result =
+    slice_get_read ds (length ds) at c.index-directories-at.result refl inside c.index-directories-at.is in
     let up : c.index-directories-at.result.parent ≤ at =
     subst (λ (o : Option Directory). option_map_or (λ (one : Directory). one.parent) o 0 ≤ at) read (parent_le ds at c.requires.first inside) in
     let size : length ds ≡ vec_len c.in_ok-places.places = sym (c.in_ok-places.places.ok.0 ∙ (c.in_ok-places.ensures.size ∙ c.requires.size)) in
-    let home : slice_index c.args.homes.now c.index-directories-at.result.parent < length ds = c.requires.inside c.index-directories-at.result.parent (le_trans (suc-le-suc up) inside) in
+    let home : slice_index c.args.homes.now c.index-directories-at.result.parent < length ds =
+    c.requires.inside c.index-directories-at.result.parent (le_trans (suc-le-suc up) inside) in
     subst (λ (n : ℕ). slice_index c.args.homes.now c.index-directories-at.result.parent < n) size home
 
 pub loop-at-preserved : goal.loop-at-preserved
@@ -35,8 +38,10 @@ loop-at-preserved c =
     let place : ℕ = c.index.result.now in
     let pushed : c.push.new.self.items ≡ parents ++ place ∷ [] = c.in_ok-push.ensures.items in
     let inside : at < length ds = omega arith in
-    let read : slice_get ds at ≡ Some c.index-directories-at.result = slice_get_read ds (length ds) at c.index-directories-at.result refl inside c.index-directories-at.is in
-    let above : parent_at ds at ≡ c.index-directories-at.result.parent = ap (λ (o : Option Directory). option_map_or (λ (one : Directory). one.parent) o 0) read in
+    let read : slice_get ds at ≡ Some c.index-directories-at.result =
+    slice_get_read ds (length ds) at c.index-directories-at.result refl inside c.index-directories-at.is in
+    let above : parent_at ds at ≡ c.index-directories-at.result.parent =
+    ap (λ (o : Option Directory). option_map_or (λ (one : Directory). one.parent) o 0) read in
     let up : parent_at ds at ≤ at = parent_le ds at c.requires.first inside in
     let home : slice_index homes (parent_at ds at) < length ds = c.requires.inside (parent_at ds at) (omega (arith, up, inside)) in
     let marked : slice_index homes (parent_at ds at) < length gone = omega (arith, home, c.requires.size) in

@@ -19,7 +19,10 @@ loop-at-preserved c =
     let all : ℕ → Bool → Type 0 = λ i m. IsPlain ds i → is_marked units i ≡ false → m ≡ true in
     record {
       size = ap length pushed ∙ (length_push gone one ∙ ap (λ (n : ℕ). n + 1) c.loop-at.invariant.size);
-      plain = subst (λ (xs : List Bool). (i : ℕ) → i < at + 1 → plain i (is_marked xs i)) (sym pushed) (mark_more gone one at plain c.loop-at.invariant.size c.loop-at.invariant.plain c.is_other.ensures.plain);
-      other = subst (λ (xs : List Bool). (i : ℕ) → i < at + 1 → other i (is_marked xs i)) (sym pushed) (mark_more gone one at other c.loop-at.invariant.size c.loop-at.invariant.other c.is_other.ensures.other);
-      all = subst (λ (xs : List Bool). (i : ℕ) → i < at + 1 → all i (is_marked xs i)) (sym pushed) (mark_more gone one at all c.loop-at.invariant.size c.loop-at.invariant.all c.is_other.ensures.all);
+      plain = subst (λ (xs : List Bool). (i : ℕ) → i < at + 1 → plain i (is_marked xs i)) (sym pushed)
+          (mark_more gone one at plain c.loop-at.invariant.size c.loop-at.invariant.plain c.is_other.ensures.plain);
+      other = subst (λ (xs : List Bool). (i : ℕ) → i < at + 1 → other i (is_marked xs i)) (sym pushed)
+          (mark_more gone one at other c.loop-at.invariant.size c.loop-at.invariant.other c.is_other.ensures.other);
+      all = subst (λ (xs : List Bool). (i : ℕ) → i < at + 1 → all i (is_marked xs i)) (sym pushed)
+          (mark_more gone one at all c.loop-at.invariant.size c.loop-at.invariant.all c.is_other.ensures.all);
     }

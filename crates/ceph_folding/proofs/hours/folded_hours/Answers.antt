@@ -14,7 +14,9 @@ loop-hour-preserved c =
     let left : Vec ℕ Global = c.in_ok-folded_hour.field-0 in
     let inside : at < length hours = c.loop-hour-test.true in
     let is : Vec ℕ Global → Vec ℕ Global → Type 0 = λ old new. AreHeatsLeft (is_marked c.args.gone.now) (slice_index c.args.homes.now) old.items new.items in
-    let here : is hour left = subst (λ (heats : List ℕ). AreHeatsLeft (is_marked c.args.gone.now) (slice_index c.args.homes.now) heats left.items) c.deref.ensures.value c.in_ok-folded_hour.ensures in
+    let here : is hour left = subst
+    (λ (heats : List ℕ). AreHeatsLeft (is_marked c.args.gone.now) (slice_index c.args.homes.now) heats left.items) c.deref.ensures.value
+    c.in_ok-folded_hour.ensures in
     subst (λ (those : List (Vec ℕ Global)). AreOneForOne is those c.push.new.self.items)
     (sym (take_more hours at hour inside ∙ ap (λ (one : Vec ℕ Global). take at hours ++ one ∷ []) (sym c.hour-item.is)))
     (subst (AreOneForOne is (take at hours ++ hour ∷ [])) (sym c.in_ok-push.ensures.items)

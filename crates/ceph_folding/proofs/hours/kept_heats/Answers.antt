@@ -16,17 +16,21 @@ loop-at-preserved c =
     elim c.if-not-gone-at.branch [
       | then-not-gone-at+in_ok-push w ↦
           let keeps : is_marked gone at ≡ false = w.if-not-gone-at.true in
-          let pushed : c.if-not-gone-at.kept.items ≡ kept ++ slice_index heats at ∷ [] = ap (λ (v : Vec ℕ Global). v.items) w.kept-is ∙ w.in_ok-push.ensures.items in
+          let pushed : c.if-not-gone-at.kept.items ≡ kept ++ slice_index heats at ∷ [] = ap (λ (v : Vec ℕ Global). v.items) w.kept-is
+          ∙ w.in_ok-push.ensures.items in
           record {
-            size = ap length pushed ∙ (length_push kept (slice_index heats at) ∙ (ap (λ (n : ℕ). n + 1) c.loop-at.invariant.size ∙ sym (kept_more (is_marked gone) at keeps)));
-            kept = subst (λ (xs : List ℕ). (i : ℕ) → i < at + 1 → is_marked gone i ≡ false → slice_index xs (kept_below (is_marked gone) i) ≡ slice_index heats i) (sym pushed)
+            size = ap length pushed ∙ (length_push kept (slice_index heats at)
+                ∙ (ap (λ (n : ℕ). n + 1) c.loop-at.invariant.size ∙ sym (kept_more (is_marked gone) at keeps)));
+            kept = subst (λ (xs : List ℕ). (i : ℕ) → i < at + 1 → is_marked gone i ≡ false
+                → slice_index xs (kept_below (is_marked gone) i) ≡ slice_index heats i) (sym pushed)
                 (keep_more gone heats kept (slice_index heats at) at c.loop-at.invariant.size refl c.loop-at.invariant.kept);
           }
       | else-not-gone-at w ↦
           let same : c.if-not-gone-at.kept.items ≡ kept = ap (λ (v : Vec ℕ Global). v.items) w.kept-is in
           record {
             size = ap length same ∙ (c.loop-at.invariant.size ∙ sym (kept_same (is_marked gone) at w.if-not-gone-at.false));
-            kept = subst (λ (xs : List ℕ). (i : ℕ) → i < at + 1 → is_marked gone i ≡ false → slice_index xs (kept_below (is_marked gone) i) ≡ slice_index heats i) (sym same)
+            kept = subst (λ (xs : List ℕ). (i : ℕ) → i < at + 1 → is_marked gone i ≡ false
+                → slice_index xs (kept_below (is_marked gone) i) ≡ slice_index heats i) (sym same)
                 (keep_same gone heats kept at w.if-not-gone-at.false c.loop-at.invariant.kept);
           }
     ]

@@ -11,5 +11,6 @@ returns-clause-back c i =
     let changes : List PinChange = c.args.changes.now in
     let all : take c.loop-change.change-index changes ≡ changes = take_all c.loop-change.change-index changes (omega arith) in
     let back : c.reverse.new.self.items ≡ inverted c.args.rows.now changes =
-    c.reverse.ensures.items ∙ ap (λ (those : List PinChange). reverse those) (c.loop-change.invariant ∙ ap (λ (those : List PinChange). map (restored c.args.rows.now) those) all) in
+    c.reverse.ensures.items ∙ ap (λ (those : List PinChange). reverse those)
+    (c.loop-change.invariant ∙ ap (λ (those : List PinChange). map (restored c.args.rows.now) those) all) in
     ap (λ (those : List PinChange). applied (applied (before_pin c.args.rows.now) changes) those i) back ∙ undone c.args.rows.now changes i

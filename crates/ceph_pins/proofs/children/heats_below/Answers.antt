@@ -18,7 +18,8 @@ loop-at-preserved c =
     c.heat_at-heat.ensures ∙ ap (λ (below : List ℕ). heat_from c.args.heats.now below (c.loop-at.at - 1)) c.deref.ensures.value in
     record {
       size = omega arith;
-      sums = below_more c.args.directories.now c.args.heats.now c.loop-at.below.items c.add_to_parent.new.sums.items (c.loop-at.at - 1) c.loop-at.at c.heat_at-heat.result
+      sums = below_more c.args.directories.now c.args.heats.now c.loop-at.below.items c.add_to_parent.new.sums.items (c.loop-at.at - 1)
+          c.loop-at.at c.heat_at-heat.result
           (omega arith) (omega arith) own c.add_to_parent.ensures.parent c.add_to_parent.ensures.others c.loop-at.invariant.sums;
     }
 

@@ -14,12 +14,18 @@ loop-change-preserved c =
     let by_ceph : Bool = c.args.mounted.by_ceph in
     let is_ceph : PinChange → Bool = λ one. is_some (change_command by_ceph directories one) in
     record {
-      text = more_lines (change_line c.args.mounted.mount.now by_ceph directories) [] c.loop-change.text.items c.push_change.new.script.items c.args.changes.now c.loop-change.change-index change
-          c.loop-change-test.true c.loop-change.invariant.text (c.in_ok-by_ceph.ensures.line ∙ ap (λ (one : PinChange). c.loop-change.text.items ++ change_line c.args.mounted.mount.now by_ceph directories one) c.change-item.is);
+      text = more_lines (change_line c.args.mounted.mount.now by_ceph directories) [] c.loop-change.text.items
+          c.push_change.new.script.items c.args.changes.now c.loop-change.change-index change
+          c.loop-change-test.true c.loop-change.invariant.text
+          (c.in_ok-by_ceph.ensures.line
+          ∙ ap (λ (one : PinChange). c.loop-change.text.items ++ change_line c.args.mounted.mount.now by_ceph directories one)
+          c.change-item.is);
       mount = ap (λ (b : Bool). b || not c.in_ok-by_ceph.by_ceph) c.loop-change.invariant.mount
-          ∙ (ap (λ (b : Bool). needs_mount by_ceph directories (take c.loop-change.change-index c.args.changes.now) || b) (ap not (c.in_ok-by_ceph.ensures.way ∙ ap is_ceph c.change-item.is))
+          ∙ (ap (λ (b : Bool). needs_mount by_ceph directories (take c.loop-change.change-index c.args.changes.now) || b)
+          (ap not (c.in_ok-by_ceph.ensures.way ∙ ap is_ceph c.change-item.is))
           ∙ sym (list_any_more (λ (one : PinChange). not (is_ceph one)) c.args.changes.now c.loop-change.change-index change c.loop-change-test.true));
       ceph = ap (λ (b : Bool). b || c.in_ok-by_ceph.by_ceph) c.loop-change.invariant.ceph
-          ∙ (ap (λ (b : Bool). needs_ceph by_ceph directories (take c.loop-change.change-index c.args.changes.now) || b) (c.in_ok-by_ceph.ensures.way ∙ ap is_ceph c.change-item.is)
+          ∙ (ap (λ (b : Bool). needs_ceph by_ceph directories (take c.loop-change.change-index c.args.changes.now) || b)
+          (c.in_ok-by_ceph.ensures.way ∙ ap is_ceph c.change-item.is)
           ∙ sym (list_any_more is_ceph c.args.changes.now c.loop-change.change-index change c.loop-change-test.true));
     }

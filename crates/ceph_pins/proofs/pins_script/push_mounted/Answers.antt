@@ -8,5 +8,6 @@ returns-clause-refused c mounted fine =
     let place : c.deref-2.result.now ≡ c.args.mount.now ++ path =
     c.deref-2.ensures.value
     ∙ (c.in_ok-extend_from_slice.ensures.items
-    ∙ (ap (λ (text : List ℕ). text ++ c.deref.result.now) c.in_ok-place.ensures.items ∙ ap (λ (more : List ℕ). c.args.mount.now ++ more) c.deref.ensures.value)) in
+    ∙ (ap (λ (text : List ℕ). text ++ c.deref.result.now) c.in_ok-place.ensures.items
+    ∙ ap (λ (more : List ℕ). c.args.mount.now ++ more) c.deref.ensures.value)) in
     c.push_line.ensures.refused (place_no_nul c.args.mount.now path c.deref-2.result.now place mounted fine)

@@ -18,7 +18,8 @@ returns-clause-lower c = λ n heat all_is hottest_is to usable.
     let all : ℕ = c.args.all + total_of c.args.ranks (slice_index c.args.pinned.now) in
     let mean : c.div_ceil-mean.result ≡ all / rank_count c.args.ranks + min 1 (all % rank_count c.args.ranks) =
     c.div_ceil-mean.ensures ∙ (rw (c.total.ensures.total, c.from-count.ensures, c.len.ensures.count) refl) in
-    let low = lower c.args.ranks c.args.pinned.now n heat c.args.all c.args.hottest c.div_ceil-mean.result c.least.result c.requires.ranks.zero all_is hottest_is mean
+    let low = lower c.args.ranks c.args.pinned.now n heat c.args.all c.args.hottest c.div_ceil-mean.result c.least.result
+    c.requires.ranks.zero all_is hottest_is mean
     c.least.ensures.least to usable in
     omega (arith, low, c.max.ensures, c.max-2.ensures, c.most.ensures)
 
@@ -27,5 +28,6 @@ returns-clause-three c = λ n heat all_is hottest_is.
     let all : ℕ = c.args.all + total_of c.args.ranks (slice_index c.args.pinned.now) in
     let mean : c.div_ceil-mean.result ≡ all / rank_count c.args.ranks + min 1 (all % rank_count c.args.ranks) =
     c.div_ceil-mean.ensures ∙ (rw (c.total.ensures.total, c.from-count.ensures, c.len.ensures.count) refl) in
-    as_great c.args.ranks c.args.pinned.now n heat c.args.all c.args.hottest c.div_ceil-mean.result c.least.result c.max-2.result c.requires.ranks.zero all_is hottest_is mean
+    as_great c.args.ranks c.args.pinned.now n heat c.args.all c.args.hottest c.div_ceil-mean.result c.least.result c.max-2.result
+    c.requires.ranks.zero all_is hottest_is mean
     c.least.ensures.one (omega (arith, c.max.ensures, c.max-2.ensures, c.most.ensures))

@@ -46,7 +46,8 @@ loop-first-preserved c =
           subst (λ (part : List ℕ). ColdStays ranks rows part one.plan.packing.rank.items (length rows)) c.deref-in-loop-first-4.ensures.value
           (subst (λ (rank : List ℕ). ColdStays ranks rows c.deref-in-loop-first-4.result.now rank (length rows)) c.deref-in-loop-first-5.ensures.value
           (c.in_ok-leaves_cold.ensures w.if-branch.true)) in
-          rw w.found-is (begun-more ranks hours rows own rests c.loop-first.found.items _ one w.in_ok-push-2.ensures.items c.in_ok-one.ensures.candidate cold c.loop-first.invariant)
+          rw w.found-is (begun-more ranks hours rows own rests c.loop-first.found.items _ one w.in_ok-push-2.ensures.items
+          c.in_ok-one.ensures.candidate cold c.loop-first.invariant)
       | else-branch w ↦ rw w.found-is c.loop-first.invariant
     ]
 

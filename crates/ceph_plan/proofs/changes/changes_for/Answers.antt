@@ -14,7 +14,9 @@ returns c =
     let are : AreChanges rows holds changes = record {
       held = c.in_ok-holds.ensures;
       changes_are = c.in_ok-push_drops.ensures
-          ∙ (ap (λ (cs : List PinChange). cs ++ drops_from rows c.deref-2.result.now (length rows) 0) (c.in_ok-push_sets.ensures ∙ ap (λ (cs : List PinChange). cs ++ sets_below rows c.deref.result.now (length rows)) c.new-changes.ensures.items)
+          ∙ (ap (λ (cs : List PinChange). cs ++ drops_from rows c.deref-2.result.now (length rows) 0)
+          (c.in_ok-push_sets.ensures ∙ ap (λ (cs : List PinChange). cs ++ sets_below rows c.deref.result.now (length rows))
+          c.new-changes.ensures.items)
           ∙ (rw (c.deref.ensures.value, c.deref-2.ensures.value) refl));
     } in
     record {

@@ -18,7 +18,8 @@ loop-i-preserved c =
     let inside : i < length rows = omega arith in
     let row : c.index-rows-i.result ≡ row_at rows i = get_or_read rows i c.index-rows-i.result inside c.index-rows-i.is no_row in
     let test : c.drops.result ≡ is_dropped (row_at rows i) (hold_at holds i) = c.drops.ensures
-    ∙ (ap (λ (r : PinRow). is_dropped r (get_or holds i Foreign)) row ∙ ap (λ (h : Hold). is_dropped (row_at rows i) h) (get_or_default holds i Foreign Free (omega (arith, inside, c.requires.size)))) in
+    ∙ (ap (λ (r : PinRow). is_dropped r (get_or holds i Foreign)) row
+    ∙ ap (λ (h : Hold). is_dropped (row_at rows i) h) (get_or_default holds i Foreign Free (omega (arith, inside, c.requires.size)))) in
     record {
       inside = omega (arith, inside);
       changes = elim c.if-drops.branch [

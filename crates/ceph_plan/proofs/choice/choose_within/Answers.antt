@@ -25,17 +25,22 @@ plannable ranks hours rows those root has none zero has_is there none_is some he
 
 pub invariant_of-of-clause-able : goal.invariant_of-of-clause-able
 invariant_of-of-clause-able c =
-    plannable c.args.ranks c.args.hours.now c.args.rows.now c.rows-rows.result.now c.default.result c.has.result c.is_empty.result (sym c.default.ensures.1 ∙ c.default.ensures.2)
+    plannable c.args.ranks c.args.hours.now c.args.rows.now c.rows-rows.result.now c.default.result c.has.result c.is_empty.result
+    (sym c.default.ensures.1 ∙ c.default.ensures.2)
     c.has.ensures c.if-not-has.false c.is_empty.ensures c.if-is_empty.false (c.if-not-have_pinned.ensures.0 refl)
-    (c.rows-rows.ensures.value ∙ (ap (λ (problem : ProblemData). problem.rows) c.in-Ok.ensures.ok ∙ c.in_ok-to_vec.ensures.items_if_clones_equal (λ x y is. is)))
+    (c.rows-rows.ensures.value
+    ∙ (ap (λ (problem : ProblemData). problem.rows) c.in-Ok.ensures.ok ∙ c.in_ok-to_vec.ensures.items_if_clones_equal (λ x y is. is)))
 
 pub invariant_of-of-clause-heats : goal.invariant_of-of-clause-heats
 invariant_of-of-clause-heats c =
     subst (λ (those : List ProblemRow). HaveHeats those c.args.hours.now)
-    (sym (c.rows-rows.ensures.value ∙ (ap (λ (problem : ProblemData). problem.rows) c.in-Ok.ensures.ok ∙ c.in_ok-to_vec.ensures.items_if_clones_equal (λ x y is. is)))) c.requires.heats
+    (sym (c.rows-rows.ensures.value
+    ∙ (ap (λ (problem : ProblemData). problem.rows) c.in-Ok.ensures.ok ∙ c.in_ok-to_vec.ensures.items_if_clones_equal (λ x y is. is))))
+    c.requires.heats
 
 pub taken-plan-requires : goal.taken-plan-requires
-taken-plan-requires c = are-cool c.args.ranks c.args.hours.now c.rows-rows.result.now c.args.wanted.parts c.in_ok-divisions.divisions.items c.in_ok-divisions.ensures.tried
+taken-plan-requires c = are-cool c.args.ranks c.args.hours.now c.rows-rows.result.now c.args.wanted.parts c.in_ok-divisions.divisions.items
+    c.in_ok-divisions.ensures.tried
 
 pub returns-clause-chosen : goal.returns-clause-chosen
 returns-clause-chosen c =
@@ -45,14 +50,16 @@ returns-clause-chosen c =
     let divisions : List PackedDivision = c.in_ok-divisions.divisions.items in
     let tried : AreTried ranks hours rows c.args.wanted.parts divisions =
     subst (λ (those : List ProblemRow). AreTried ranks hours those c.args.wanted.parts divisions)
-    (c.rows-rows.ensures.value ∙ (ap (λ (problem : ProblemData). problem.rows) c.in-Ok.ensures.ok ∙ c.in_ok-to_vec.ensures.items_if_clones_equal (λ x y is. is)))
+    (c.rows-rows.ensures.value
+    ∙ (ap (λ (problem : ProblemData). problem.rows) c.in-Ok.ensures.ok ∙ c.in_ok-to_vec.ensures.items_if_clones_equal (λ x y is. is)))
     c.in_ok-divisions.ensures.tried in
     record {
       choice = record {
         plannable =
             plannable ranks hours rows rows c.default.result c.has.result c.is_empty.result (sym c.default.ensures.1 ∙ c.default.ensures.2)
             c.has.ensures c.if-not-has.false c.is_empty.ensures c.if-is_empty.false (c.if-not-have_pinned.ensures.0 refl) refl;
-        plan = plan-taken ranks c.args.wanted.keep hours rows divisions c.taken-plan.result (divisions-tried ranks hours rows c.args.wanted.parts divisions tried) c.taken-plan.ensures;
+        plan = plan-taken ranks c.args.wanted.keep hours rows divisions c.taken-plan.result
+            (divisions-tried ranks hours rows c.args.wanted.parts divisions tried) c.taken-plan.ensures;
         divisions = divisions;
         tried = tried;
         taken = c.taken-plan.ensures;
@@ -60,7 +67,8 @@ returns-clause-chosen c =
       limit_is = record {
         coolest = c.coolest.result;
         has = subst (λ (those : List PackedDivision). c.coolest.result < length those) c.deref-2.ensures.value c.coolest.ensures.inside;
-        least = subst (λ (those : List PackedDivision). (j : ℕ) → j < length those → even_at those c.coolest.result ≤ even_at those j) c.deref-2.ensures.value c.coolest.ensures.least;
+        least = subst (λ (those : List PackedDivision). (j : ℕ) → j < length those → even_at those c.coolest.result ≤ even_at those j)
+            c.deref-2.ensures.value c.coolest.ensures.least;
         is = c.limit_of-limit.ensures ∙ ap (λ (those : List PackedDivision). allowed c.args.wanted.keep (even_at those c.coolest.result)) c.deref.ensures.value;
       };
     }

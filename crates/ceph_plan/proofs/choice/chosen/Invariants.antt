@@ -8,5 +8,6 @@ invariant-loop-at l = record {
   place : IsPlace l.divisions l.best l.place;
   within : greatest_in (packings_at l.divisions l.best) l.place ≤ l.limit;
   fewest : (j w : ℕ) → j < l.at → w < length (packings_at l.divisions j) → greatest_in (packings_at l.divisions j) w ≤ l.limit
-      → ¬ IsFewer (moved_in (packings_at l.divisions j) w) (part_count_at l.divisions j) (moved_in (packings_at l.divisions l.best) l.place) (part_count_at l.divisions l.best);
+      → ¬ IsFewer (moved_in (packings_at l.divisions j) w) (part_count_at l.divisions j) (moved_in (packings_at l.divisions l.best) l.place)
+      (part_count_at l.divisions l.best);
 }

@@ -9,5 +9,6 @@ returns-clause-divided c =
     record {
       divided = divided;
       only = c.in_ok-push.ensures.items ∙ ap (λ (those : List PackedDivision). those ++ divided ∷ []) c.new-divisions.ensures.items;
-      of = subst (λ (parts : ℕ). IsDivided c.args.of.now.ranks c.args.of.now.hours.now c.args.of.now.rows.now parts no_cap divided) c.from-parts.ensures c.in_ok-divided.ensures.divided;
+      of = subst (λ (parts : ℕ). IsDivided c.args.of.now.ranks c.args.of.now.hours.now c.args.of.now.rows.now parts no_cap divided)
+          c.from-parts.ensures c.in_ok-divided.ensures.divided;
     }

@@ -16,8 +16,10 @@ swap_remove-packed-requires c =
     let divided : PackedDivision = c.swap_remove-divided.result in
     let k : ℕ = c.chosen-at.result.0 in
     let v : ℕ = c.chosen-at.result.1 in
-    let chosen : IsChosen c.args.keep divisions k v = subst (λ (those : List PackedDivision). IsChosen c.args.keep those k v) c.deref.ensures.value c.chosen-at.ensures in
-    let at : slice_get divisions k ≡ Some divided = slice_get_read divisions (length divisions) k divided refl chosen.place.inside c.swap_remove-divided.ensures.value in
+    let chosen : IsChosen c.args.keep divisions k v = subst (λ (those : List PackedDivision). IsChosen c.args.keep those k v)
+    c.deref.ensures.value c.chosen-at.ensures in
+    let at : slice_get divisions k ≡ Some divided = slice_get_read divisions (length divisions) k divided refl chosen.place.inside
+    c.swap_remove-divided.ensures.value in
     subst (λ (n : ℕ). v < n) (sym divided.packings.each.ok.0) (inside-packings divisions k v divided at chosen.place.there)
 
 pub returns : goal.returns
@@ -27,8 +29,10 @@ returns c =
     let packed : Packed = c.swap_remove-packed.result in
     let k : ℕ = c.chosen-at.result.0 in
     let v : ℕ = c.chosen-at.result.1 in
-    let chosen : IsChosen c.args.keep divisions k v = subst (λ (those : List PackedDivision). IsChosen c.args.keep those k v) c.deref.ensures.value c.chosen-at.ensures in
-    let at : slice_get divisions k ≡ Some divided = slice_get_read divisions (length divisions) k divided refl chosen.place.inside c.swap_remove-divided.ensures.value in
+    let chosen : IsChosen c.args.keep divisions k v = subst (λ (those : List PackedDivision). IsChosen c.args.keep those k v)
+    c.deref.ensures.value c.chosen-at.ensures in
+    let at : slice_get divisions k ≡ Some divided = slice_get_read divisions (length divisions) k divided refl chosen.place.inside
+    c.swap_remove-divided.ensures.value in
     let packings : List Packed = divided.packings.each.items in
     record {
       k = k;
@@ -37,6 +41,7 @@ returns c =
       divided = divided;
       packed = packed;
       at = at;
-      there = slice_get_read packings (length packings) v packed refl (inside-packings divisions k v divided at chosen.place.there) c.swap_remove-packed.ensures.value;
+      there = slice_get_read packings (length packings) v packed refl (inside-packings divisions k v divided at chosen.place.there)
+          c.swap_remove-packed.ensures.value;
       is = refl;
     }

@@ -11,6 +11,7 @@ returns c =
     let part : List ℕ = c.args.part.now in
     let ranks : List ℕ = c.deref.result.now in
     IfOk-weaker c.loads.result _ _
-    (λ found is. loads-same hours (length ranks) (length part) (slice_index ranks) (packed_rank c.args.rank.now part) found.items (ap length c.deref.ensures.value ∙ c.in_ok-ranks.ensures.size)
+    (λ found is. loads-same hours (length ranks) (length part) (slice_index ranks) (packed_rank c.args.rank.now part) found.items
+    (ap length c.deref.ensures.value ∙ c.in_ok-ranks.ensures.size)
     (λ i l. ap (λ (xs : List ℕ). slice_index xs i) c.deref.ensures.value ∙ c.in_ok-ranks.ensures.ranks i l) is)
     c.loads.ensures

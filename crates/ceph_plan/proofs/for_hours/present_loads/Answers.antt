@@ -12,6 +12,7 @@ returns c =
     let rows : List ProblemRow = c.args.rows.now in
     let ranks : List ℕ = c.deref.result.now in
     IfOk-weaker c.loads.result _ _
-    (λ found is. loads-same hours (length ranks) (length rows) (slice_index ranks) (now_at rows) found.items (ap length c.deref.ensures.value ∙ c.in_ok-ranks.ensures.size)
+    (λ found is. loads-same hours (length ranks) (length rows) (slice_index ranks) (now_at rows) found.items
+    (ap length c.deref.ensures.value ∙ c.in_ok-ranks.ensures.size)
     (λ i l. ap (λ (xs : List ℕ). slice_index xs i) c.deref.ensures.value ∙ c.in_ok-ranks.ensures.now i l) is)
     c.loads.ensures

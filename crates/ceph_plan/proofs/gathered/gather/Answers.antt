@@ -11,7 +11,8 @@ use Rattle.ceph_plan.proofs.PinList.{before-inside, with_no_pin, with_pin}
 use Rattle.ceph_plan.proofs.gathered.gather.Goals as goal
 
 -- whether the row before row i has a pin, as it is read
-read-own : (holds : List Hold) (rows : List PinRow) (i : ℕ) → length holds ≡ length rows → i < length rows → is_own (get_or holds i Foreign) ≡ is_own (hold_at holds i)
+read-own : (holds : List Hold) (rows : List PinRow) (i : ℕ) → length holds ≡ length rows → i < length rows
+    → is_own (get_or holds i Foreign) ≡ is_own (hold_at holds i)
 read-own holds rows i size inside = ap is_own (get_or_default holds i Foreign Free (subst (λ (n : ℕ). i < n) (sym size) inside))
 
 pub loop-i-preserved-in-Continue-1 : goal.loop-i-preserved-in-Continue-1

@@ -19,7 +19,8 @@ index-requires c =
 
 pub bounds-rows-parent : goal.bounds-rows-parent
 bounds-rows-parent c =
-    lt_trans (parent-before c.args.rows.now c.index-rows-i.result c.loop-i.i c.requires c.if-i-eq0.false c.loop-i-test.true c.index-rows-i.is) c.loop-i-test.true
+    lt_trans (parent-before c.args.rows.now c.index-rows-i.result c.loop-i.i c.requires c.if-i-eq0.false c.loop-i-test.true
+    c.index-rows-i.is) c.loop-i-test.true
 
 pub loop-i-preserved : goal.loop-i-preserved
 loop-i-preserved c =
@@ -34,7 +35,8 @@ loop-i-preserved c =
       holds = subst (λ (hs : List Hold). AreHolds rows hs (i + 1)) (sym pushed) (elim c.if-i-eq0.branch [
         | then-i-eq0 w ↦
             let is : i ≡ 0 = w.if-i-eq0.true in
-            hold_more rows items c.if-i-eq0.hold i c.loop-i.invariant.size c.requires c.loop-i.invariant.holds inside (λ first. w.hold-is) (λ later. absurd (omega (arith, later, is)))
+            hold_more rows items c.if-i-eq0.hold i c.loop-i.invariant.size c.requires c.loop-i.invariant.holds inside (λ first. w.hold-is)
+            (λ later. absurd (omega (arith, later, is)))
         | else-i-eq0 w ↦
             hold_more rows items c.if-i-eq0.hold i c.loop-i.invariant.size c.requires c.loop-i.invariant.holds inside (λ first. absurd (w.if-i-eq0.false first))
             (λ later.

@@ -18,9 +18,11 @@ spread-requires-clause-can c =
       bounds_size = ap length c.deref-3.ensures.value ∙ c.in_ok-bounds.ensures.size;
       bounds_are = subst (λ (xs : List ℕ). AreBounds ranks hours (slice_index xs)) (sym c.deref-3.ensures.value) c.in_ok-bounds.ensures.bounds;
       kept_size = ap length c.deref-4.ensures.value ∙ (c.in_ok-kept.ensures.size ∙ (ap length c.deref.ensures.value ∙ c.in_ok-loads.ensures.size));
-      kept_are = subst (λ (xs : List Bool). (h : ℕ) → h < length hours → get_or xs h false ≡ true ↔ MayBeChosen (length hours) (load_in_hour ranks hours) h) (sym c.deref-4.ensures.value)
+      kept_are = subst (λ (xs : List Bool). (h : ℕ) → h < length hours
+          → get_or xs h false ≡ true ↔ MayBeChosen (length hours) (load_in_hour ranks hours) h) (sym c.deref-4.ensures.value)
           (kept-known ranks hours loads kept c.in_ok-loads.ensures.size c.in_ok-loads.ensures.loads
-          (subst (λ (xs : List ℕ). (h : ℕ) → h < length xs → get_or kept h false ≡ true ↔ MayBeChosen (length xs) (slice_index xs) h) c.deref.ensures.value c.in_ok-kept.ensures.kept));
+          (subst (λ (xs : List ℕ). (h : ℕ) → h < length xs → get_or kept h false ≡ true ↔ MayBeChosen (length xs) (slice_index xs) h)
+          c.deref.ensures.value c.in_ok-kept.ensures.kept));
     }
 
 pub returns-then-len-most-clause-chosen : goal.returns-then-len-most-clause-chosen
@@ -33,5 +35,6 @@ returns-then-len-most-clause-chosen c =
     (subst (λ (xs : List Bool). AreMarked xs c.in_ok-all.all.items) c.deref-2.ensures.value c.in_ok-all.ensures)
     (c.in_ok-kept.ensures.size ∙ (ap length c.deref.ensures.value ∙ c.in_ok-loads.ensures.size)) c.requires.hours.some
     (kept-known ranks hours loads kept c.in_ok-loads.ensures.size c.in_ok-loads.ensures.loads
-    (subst (λ (xs : List ℕ). (h : ℕ) → h < length xs → get_or kept h false ≡ true ↔ MayBeChosen (length xs) (slice_index xs) h) c.deref.ensures.value c.in_ok-kept.ensures.kept))
+    (subst (λ (xs : List ℕ). (h : ℕ) → h < length xs → get_or kept h false ≡ true ↔ MayBeChosen (length xs) (slice_index xs) h)
+    c.deref.ensures.value c.in_ok-kept.ensures.kept))
     (omega (arith, c.if-len-most.true, c.len.ensures))

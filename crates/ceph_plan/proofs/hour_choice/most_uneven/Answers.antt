@@ -3,7 +3,8 @@ use Rattle.std.proofs.lemmas.Bool.{both_ways}
 use Rattle.ceph_plan.specs.ChosenHours.{IsMoreUneven}
 use Rattle.ceph_plan.proofs.Choosing.{IsNextBefore, next-all, next-new, next-none, next-old, not-before}
 use Rattle.ceph_plan.proofs.hour_choice.most_uneven.Goals as goal
-use Rattle.ceph_plan.proofs.hour_choice.most_uneven.Goals.{then-may_come+then-is_before, else-may_come, else-may_come-via-then-may_come+else-is_before, else-may_come-via-else-may_come}
+use Rattle.ceph_plan.proofs.hour_choice.most_uneven.Goals.{then-may_come+then-is_before, else-may_come}
+use Rattle.ceph_plan.proofs.hour_choice.most_uneven.Goals.{else-may_come-via-then-may_come+else-is_before, else-may_come-via-else-may_come}
 
 pub loop-h-init : goal.loop-h-init
 loop-h-init c = next-none _ _ _ _ _ _ (sym c.requires.can.kept_size)
@@ -33,7 +34,8 @@ loop-h-preserved c =
           subst (IsNextBefore keep kept bounds loads chosen (h + 1)) (sym w.best-is)
           (next-old keep kept bounds loads chosen h best inside c.loop-h.invariant (λ may. elim w.else-may_come.branch [
             | else-may_come-via-then-may_come+else-is_before v ↦
-                not-before bounds loads h best (length kept) c.loop-h.invariant.inside (λ before. both_ways v.is_before.result v.if-is_before.false (v.is_before.ensures.1
+                not-before bounds loads h best (length kept) c.loop-h.invariant.inside
+                (λ before. both_ways v.is_before.result v.if-is_before.false (v.is_before.ensures.1
                 (⊎_elim (λ (first : best ≡ length kept). inl (omega (arith, first, size))) (λ (more : IsMoreUneven bounds loads h best). inr more) before)))
             | else-may_come-via-else-may_come v ↦ absurd (both_ways c.may_come.result v.if-may_come.false (c.may_come.ensures.1 may))
           ]))
@@ -42,4 +44,5 @@ loop-h-preserved c =
 pub returns : goal.returns
 returns c =
     next-all c.args.of.now.wanted.keep c.args.of.now.kept.now c.args.of.now.bounds.now c.args.greatest.now c.args.chosen.now c.loop-h.h c.loop-h.best
-    (let all : c.loop-h.h ≡ length c.args.of.now.kept.now = omega (arith, c.loop-h-test.false, c.loop-h.auto.h-end, c.requires.can.kept_size) in all) c.loop-h.invariant
+    (let all : c.loop-h.h ≡ length c.args.of.now.kept.now =
+    omega (arith, c.loop-h-test.false, c.loop-h.auto.h-end, c.requires.can.kept_size) in all) c.loop-h.invariant

@@ -9,7 +9,8 @@ use Rattle.ceph_plan.proofs.hour_choice.spread.Goals as goal
 
 pub loop-alloc-init : goal.loop-alloc-init
 loop-alloc-init c =
-    only-present c.args.of.now.ranks c.args.of.now.hours.now c.args.of.now.rows.now c.args.of.now.wanted c.args.of.now.own.now c.args.most c.in_ok-chosen.chosen.items
+    only-present c.args.of.now.ranks c.args.of.now.hours.now c.args.of.now.rows.now c.args.of.now.wanted c.args.of.now.own.now c.args.most
+    c.in_ok-chosen.chosen.items
     (c.in_ok-chosen.ensures.items_if_clones_equal (λ y is. is)) c.requires.can.some c.requires.most
 
 next_is : (ranks : ℕ) (hours : List Hour) (rows : List ProblemRow) (wanted : Wanted) (own : List OwnPins) (given chosen : List ℕ) (next : ℕ) → given ≡ chosen
@@ -22,7 +23,8 @@ returns-then-next-of-clause-chosen c =
     let hours : List Hour = c.args.of.now.hours.now in
     let found : List ℕ = c.loop-alloc.chosen.items in
     let of : IsNextHour ranks hours c.args.of.now.rows.now c.args.of.now.wanted c.args.of.now.own.now found c.in_ok-next.next =
-    next_is ranks hours c.args.of.now.rows.now c.args.of.now.wanted c.args.of.now.own.now c.deref.result.now found c.in_ok-next.next c.deref.ensures.value c.in_ok-next.ensures.next in
+    next_is ranks hours c.args.of.now.rows.now c.args.of.now.wanted c.args.of.now.own.now c.deref.result.now found c.in_ok-next.next
+    c.deref.ensures.value c.in_ok-next.ensures.next in
     by-need ranks hours c.args.of.now.rows.now c.args.of.now.wanted c.args.of.now.own.now c.args.most found c.loop-alloc.invariant
     (inr (subst (IsNextHour ranks hours c.args.of.now.rows.now c.args.of.now.wanted c.args.of.now.own.now found) c.if-next-of.true of))
 
@@ -33,7 +35,8 @@ loop-alloc-preserved c =
     let found : List ℕ = c.loop-alloc.chosen.items in
     let next : ℕ = c.in_ok-next.next in
     let of : IsNextHour ranks hours c.args.of.now.rows.now c.args.of.now.wanted c.args.of.now.own.now found next =
-    next_is ranks hours c.args.of.now.rows.now c.args.of.now.wanted c.args.of.now.own.now c.deref.result.now found next c.deref.ensures.value c.in_ok-next.ensures.next in
+    next_is ranks hours c.args.of.now.rows.now c.args.of.now.wanted c.args.of.now.own.now c.deref.result.now found next
+    c.deref.ensures.value c.in_ok-next.ensures.next in
     let inside : next < length hours = omega (arith, of.next_is.inside, of.judged.size, c.if-next-of.false) in
     let room : length found < c.args.most = omega (arith, c.loop-alloc-test.true, c.len.ensures) in
     subst (AreSoFar ranks hours c.args.of.now.rows.now c.args.of.now.wanted c.args.of.now.own.now c.args.most) (sym c.in_ok-push.ensures.items)

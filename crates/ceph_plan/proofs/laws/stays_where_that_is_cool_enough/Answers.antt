@@ -7,4 +7,5 @@ returns-clause-limit c = λ ranks hours rows wanted own found is can few cool. s
 
 pub returns-clause-bound : goal.returns-clause-bound
 returns-clause-bound c = λ ranks hours rows wanted own found is h bound can few inside lower near.
-    stays ranks hours rows wanted own found is can few (near-bound ranks hours rows wanted is.limit h bound _ is.divided is.chosen is.limit_is inside lower near)
+    stays ranks hours rows wanted own found is can few
+    (near-bound ranks hours rows wanted is.limit h bound _ is.divided is.chosen is.limit_is inside lower near)

@@ -16,7 +16,12 @@ overflow_add-index_mut c =
     let i : ℕ = c.loop-i.i in
     let p : ℕ = c.index-rows-i.result.parent in
     let row : c.index-rows-i.result ≡ row_at rows i = get_or_read rows i c.index-rows-i.result c.loop-i-test.true c.index-rows-i.is no_row in
-    let inside : p < length rows = omega (arith, ap (λ (one : ProblemRow). one.parent) row, c.requires.forest.above i (omega (arith, c.loop-i.auto.i)) c.loop-i-test.true, c.loop-i-test.true) in
+    let inside : p < length rows = omega (
+      arith,
+      ap (λ (one : ProblemRow). one.parent) row,
+      c.requires.forest.above i (omega (arith, c.loop-i.auto.i)) c.loop-i-test.true,
+      c.loop-i-test.true,
+    ) in
     let read : c.index_mut.result.now ≡ get_or counts p 0 =
     read-value counts counts p c.index_mut.result.now refl (omega (arith, inside, c.loop-i.invariant.size))
     (c.index_mut.ensures.value ∙ ap (λ (one : ProblemRow). get_or counts one.parent c.index_mut.result.now) (sym c.index-rows-i.is)) in
@@ -40,10 +45,12 @@ loop-i-preserved c =
           let read : w.index_mut.result.now ≡ get_or counts p 0 =
           read-value counts counts p w.index_mut.result.now refl there
           (w.index_mut.ensures.value ∙ ap (λ (one : ProblemRow). get_or counts one.parent w.index_mut.result.now) (sym w.index-rows-i.is)) in
-          let set_is : c.if-free-i.counts.items ≡ set counts p v = rw w.counts-is (ap (λ (one : ProblemRow). set counts one.parent v) (sym w.index-rows-i.is)) in
+          let set_is : c.if-free-i.counts.items ≡ set counts p v =
+          rw w.counts-is (ap (λ (one : ProblemRow). set counts one.parent v) (sym w.index-rows-i.is)) in
           record {
             size = ap length set_is ∙ (length-set counts p v ∙ c.loop-i.invariant.size);
-            each = counted-more rows free counts c.if-free-i.counts.items i p v set_is (ap (λ (x : ℕ). x + 1) read) up there deep w.if-free-i.true c.loop-i.invariant.each;
+            each = counted-more rows free counts c.if-free-i.counts.items i p v set_is (ap (λ (x : ℕ). x + 1) read) up there deep
+                w.if-free-i.true c.loop-i.invariant.each;
           }
       | else-free-i w ↦ record {
         size = rw w.counts-is c.loop-i.invariant.size;

@@ -29,8 +29,10 @@ loop-parent-preserved c =
     } in
     record {
       size = ap length c.in_ok-push.ensures.items ∙ simp length-append (omega (arith, c.loop-parent.invariant.size));
-      each = made-each rows free now c.loop-parent.found.items c.push.new.self.items one items i c.in_ok-push.ensures.items c.loop-parent.invariant.size is c.loop-parent.invariant.each;
-      same = made-parents rows free now c.loop-parent.found.items c.push.new.self.items one items i c.in_ok-push.ensures.items c.loop-parent.invariant.size refl c.loop-parent.invariant.same;
+      each = made-each rows free now c.loop-parent.found.items c.push.new.self.items one items i c.in_ok-push.ensures.items
+          c.loop-parent.invariant.size is c.loop-parent.invariant.each;
+      same = made-parents rows free now c.loop-parent.found.items c.push.new.self.items one items i c.in_ok-push.ensures.items
+          c.loop-parent.invariant.size refl c.loop-parent.invariant.same;
     }
 
 pub returns : goal.returns

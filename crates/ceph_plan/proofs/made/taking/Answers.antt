@@ -1,4 +1,5 @@
-use Rattle.std.proofs.Common.{◌≡◌, ◌∙◌, ◌⊎◌, ◌↔◌, ◌<◌, ◌≤◌, ℕ, Bool, true, false, List, ap, arith, get_or, length, length-append, inl, inr, refl, slice_index, sym, ⊎_elim}
+use Rattle.std.proofs.Common.{◌≡◌, ◌∙◌, ◌⊎◌, ◌↔◌, ◌<◌, ◌≤◌, ℕ, Bool, true, false, List}
+use Rattle.std.proofs.Common.{ap, arith, get_or, length, length-append, inl, inr, refl, slice_index, sym, ⊎_elim}
 use Rattle.std.proofs.lemmas.Bool.{both_ways}
 use Rattle.mds_types.specs.declared.problem.ProblemRow.{ProblemRow}
 use Rattle.mds_types.specs.Problem.{inodes_at}
@@ -22,7 +23,8 @@ loop-i-preserved c =
     let hot_are : AreTotals rows (heat_mark heats) (slice_index hot) =
     totals-same rows (slice_index c.deref-2.result.now) (heat_mark heats) (slice_index hot)
     (λ v l. ap (λ (xs : List ℕ). slice_index xs v) c.deref-2.ensures.value
-    ∙ (c.in_ok-marks.ensures.marks v (omega (arith, l, ap length c.deref.ensures.value, c.requires.size)) ∙ ap (λ (xs : List ℕ). heat_mark xs v) c.deref.ensures.value))
+    ∙ (c.in_ok-marks.ensures.marks v (omega (arith, l, ap length c.deref.ensures.value, c.requires.size))
+    ∙ ap (λ (xs : List ℕ). heat_mark xs v) c.deref.ensures.value))
     c.in_ok-hot.ensures.totals in
     let inodes_are : AreTotals rows (inodes_at rows) (slice_index inodes) =
     totals-same rows (slice_index c.deref-3.result.now) (inodes_at rows) (slice_index inodes)
@@ -30,11 +32,13 @@ loop-i-preserved c =
     let P : ℕ → Type 0 = λ d. (get_or free d false ≡ true) × MayTake rows heats d in
     let last : c.if-free-i.push ≡ true ↔ P i = elim c.if-free-i.branch [
       | then-free-i w ↦
-          let hot_is : w.index.result.now ≡ slice_index hot i = read-value hot hot i w.index.result.now refl (omega (arith, inside, c.in_ok-hot.ensures.size)) w.index.ensures in
+          let hot_is : w.index.result.now ≡ slice_index hot i =
+          read-value hot hot i w.index.result.now refl (omega (arith, inside, c.in_ok-hot.ensures.size)) w.index.ensures in
           let inodes_is : w.index-then-free-i.result.now ≡ slice_index inodes i =
           read-value inodes inodes i w.index-then-free-i.result.now refl (omega (arith, inside, c.in_ok-inodes.ensures.size)) w.index-then-free-i.ensures in
           let all_is : w.index-then-free-i-2.result.now ≡ slice_index inodes 0 =
-          read-value inodes inodes 0 w.index-then-free-i-2.result.now refl (omega (arith, inside, c.in_ok-inodes.ensures.size)) w.index-then-free-i-2.ensures in (
+          read-value inodes inodes 0 w.index-then-free-i-2.result.now refl (omega (arith, inside, c.in_ok-inodes.ensures.size))
+          w.index-then-free-i-2.ensures in (
             λ (is : c.if-free-i.push ≡ true). (
               w.if-free-i.true,
               may-take rows heats (slice_index hot) (slice_index inodes) c.requires.forest hot_are inodes_are i inside

@@ -8,7 +8,8 @@ use Rattle.ceph_plan.proofs.made.totals.Goals as goal
 
 pub weigh-requires : goal.weigh-requires
 weigh-requires c =
-    subst IsForest (sym c.deref.ensures.value) (numbered-forest c.args.rows.now c.in_ok-rows.rows.items c.args.own.now c.requires.forest c.in_ok-rows.ensures c.requires.small)
+    subst IsForest (sym c.deref.ensures.value)
+    (numbered-forest c.args.rows.now c.in_ok-rows.rows.items c.args.own.now c.requires.forest c.in_ok-rows.ensures c.requires.small)
 
 pub returns-clause-totals : goal.returns-clause-totals
 returns-clause-totals c =

@@ -18,7 +18,8 @@ loop-i-preserved c =
     let inodes : List ℕ = c.in_ok-inodes.inodes.items in
     let i : ℕ = c.loop-i.i in
     let inside : i < length rows = c.loop-i-test.true in
-    let hot_is : c.index.result.now ≡ slice_index hot i = read-value hot hot i c.index.result.now refl (omega (arith, inside, c.in_ok-hot.ensures.size)) c.index.ensures in
+    let hot_is : c.index.result.now ≡ slice_index hot i =
+    read-value hot hot i c.index.result.now refl (omega (arith, inside, c.in_ok-hot.ensures.size)) c.index.ensures in
     let inodes_is : c.index-in-loop-i.result.now ≡ slice_index inodes i =
     read-value inodes inodes i c.index-in-loop-i.result.now refl (omega (arith, inside, c.in_ok-inodes.ensures.size)) c.index-in-loop-i.ensures in
     let all_is : c.index-in-loop-i-2.result.now ≡ slice_index inodes 0 =
@@ -26,7 +27,8 @@ loop-i-preserved c =
     let hot_are : AreTotals rows (heat_mark heats) (slice_index hot) =
     totals-same rows (slice_index c.deref-2.result.now) (heat_mark heats) (slice_index hot)
     (λ v l. ap (λ (xs : List ℕ). slice_index xs v) c.deref-2.ensures.value
-    ∙ (c.in_ok-marks.ensures.marks v (omega (arith, l, ap length c.deref.ensures.value, c.requires.size)) ∙ ap (λ (xs : List ℕ). heat_mark xs v) c.deref.ensures.value))
+    ∙ (c.in_ok-marks.ensures.marks v (omega (arith, l, ap length c.deref.ensures.value, c.requires.size))
+    ∙ ap (λ (xs : List ℕ). heat_mark xs v) c.deref.ensures.value))
     c.in_ok-hot.ensures.totals in
     let inodes_are : AreTotals rows (inodes_at rows) (slice_index inodes) =
     totals-same rows (slice_index c.deref-3.result.now) (inodes_at rows) (slice_index inodes)
@@ -36,7 +38,8 @@ loop-i-preserved c =
           let no = c.may_make.ensures.no w.if-not-may_make.true in
           let set_is : new ≡ set old i 0 = rw w.worth-is refl in
           let never : ¬ (IsWarm rows heats i ⊎ IsLarge rows i) =
-          neither rows heats (slice_index hot) (slice_index inodes) c.requires.forest hot_are inodes_are i inside (omega (arith, hot_is, no.0)) (omega (arith, inodes_is, all_is, no.1)) in
+          neither rows heats (slice_index hot) (slice_index inodes) c.requires.forest hot_are inodes_are i inside
+          (omega (arith, hot_is, no.0)) (omega (arith, inodes_is, all_is, no.1)) in
           record {
             size = ap length set_is ∙ (length-set old i 0 ∙ c.loop-i.invariant.size);
             done = decided-none rows free heats old new i set_is (omega (arith, inside, c.loop-i.invariant.size)) never c.loop-i.invariant.done;

@@ -37,17 +37,22 @@ invariant_of-parts c =
             zero = c.requires.able.zero;
             hours_are = subst (λ (those : List Hour). AreHours those (length c.deref-5.result.now)) (sym c.deref-4.ensures.value)
                 (subst (AreHours hours) (sym size)
-                (hours-parts c.args.hours.now hours (length c.args.part.now) c.args.count c.args.part.now rows (λ i l. c.requires.parts.below i (omega (arith, l, c.requires.parts.size))) c.in_ok-hours.ensures));
+                (hours-parts c.args.hours.now hours (length c.args.part.now) c.args.count c.args.part.now rows
+                (λ i l. c.requires.parts.below i (omega (arith, l, c.requires.parts.size))) c.in_ok-hours.ensures));
             greatest = subst (λ (those : List Hour). AreGreatest those c.deref-5.result.now) (sym c.deref-4.ensures.value)
-                (subst (AreGreatest hours) (sym c.deref-5.ensures.value) (subst (λ (those : List Hour). AreGreatest those heats) c.deref.ensures.value c.in_ok-heats.ensures.greatest));
+                (subst (AreGreatest hours) (sym c.deref-5.ensures.value)
+                (subst (λ (those : List Hour). AreGreatest those heats) c.deref.ensures.value c.in_ok-heats.ensures.greatest));
           };
     }
 
 pub moved-moved-requires : goal.moved-moved-requires
 moved-moved-requires c =
-    let is : IsPartsPacking c.args.ranks c.in_ok-hours.hours.items c.in_ok-heats.heats.items c.in_ok-inodes.inodes.items (slice_index c.args.part.now 0) c.in_ok-even.even.rank.items c.in_ok-packing.packing =
-    parts-same c.args.ranks c.in_ok-hours.hours.items c.deref-4.result.now c.in_ok-heats.heats.items c.in_ok-inodes.inodes.items c.deref-5.result.now c.deref-7.result.now (slice_index c.args.part.now 0)
-    c.in_ok-even.even.rank.items c.in_ok-packing.packing c.deref-4.ensures.value c.deref-5.ensures.value c.deref-7.ensures.value c.in_ok-packing.ensures.parts in
+    let is : IsPartsPacking c.args.ranks c.in_ok-hours.hours.items c.in_ok-heats.heats.items c.in_ok-inodes.inodes.items
+    (slice_index c.args.part.now 0) c.in_ok-even.even.rank.items c.in_ok-packing.packing =
+    parts-same c.args.ranks c.in_ok-hours.hours.items c.deref-4.result.now c.in_ok-heats.heats.items c.in_ok-inodes.inodes.items
+    c.deref-5.result.now c.deref-7.result.now (slice_index c.args.part.now 0)
+    c.in_ok-even.even.rank.items c.in_ok-packing.packing c.deref-4.ensures.value c.deref-5.ensures.value c.deref-7.ensures.value
+    c.in_ok-packing.ensures.parts in
     subst (HaveParts c.args.rows.now c.args.part.now)
     (sym (ap length c.deref-in-loop-keep.ensures.value ∙ (is.ranks_are.size ∙ c.in_ok-heats.ensures.size)))
     c.requires.parts
@@ -74,17 +79,22 @@ loop-keep-preserved c =
     } in
     let by_heat : IsEvenPacking c.args.ranks parts heats (slice_index part 0) even =
     subst (λ (those : List Hour). IsEvenPacking c.args.ranks those heats (slice_index part 0) even) c.deref-4.ensures.value
-    (subst (λ (those : List ℕ). IsEvenPacking c.args.ranks c.deref-4.result.now those (slice_index part 0) even) c.deref-5.ensures.value c.in_ok-even.ensures.even) in
+    (subst (λ (those : List ℕ). IsEvenPacking c.args.ranks c.deref-4.result.now those (slice_index part 0) even) c.deref-5.ensures.value
+    c.in_ok-even.ensures.even) in
     let is : IsPartsPacking c.args.ranks parts heats inodes (slice_index part 0) even packing =
-    parts-same c.args.ranks c.in_ok-hours.hours.items c.deref-4.result.now c.in_ok-heats.heats.items c.in_ok-inodes.inodes.items c.deref-5.result.now c.deref-7.result.now (slice_index c.args.part.now 0)
-    c.in_ok-even.even.rank.items c.in_ok-packing.packing c.deref-4.ensures.value c.deref-5.ensures.value c.deref-7.ensures.value c.in_ok-packing.ensures.parts in
+    parts-same c.args.ranks c.in_ok-hours.hours.items c.deref-4.result.now c.in_ok-heats.heats.items c.in_ok-inodes.inodes.items
+    c.deref-5.result.now c.deref-7.result.now (slice_index c.args.part.now 0)
+    c.in_ok-even.even.rank.items c.in_ok-packing.packing c.deref-4.ensures.value c.deref-5.ensures.value c.deref-7.ensures.value
+    c.in_ok-packing.ensures.parts in
     let next : suc at ≡ at + 1 = omega arith in
     let one : take at tolerances ++ packing.keep ∷ [] ≡ take (at + 1) tolerances =
     ap (λ (keep : ℕ). take at tolerances ++ keep ∷ []) c.in_ok-packing.ensures.keep
     ∙ (sym (take-suc tolerances at _ c.loop-keep-test.true) ∙ ap (λ (n : ℕ). take n tolerances) next) in
-    subst (λ (each : List Packed). AreSoFar c.args.ranks hours rows part c.args.count c.in_ok-even.even.greatest each (take (at + 1) tolerances)) (sym c.in_ok-push.ensures.items)
+    subst (λ (each : List Packed). AreSoFar c.args.ranks hours rows part c.args.count c.in_ok-even.even.greatest each
+    (take (at + 1) tolerances)) (sym c.in_ok-push.ensures.items)
     (subst (λ (tried : List ℕ). AreSoFar c.args.ranks hours rows part c.args.count c.in_ok-even.even.greatest (c.loop-keep.each.items ++ more ∷ []) tried) one
-    (packings-more c.args.ranks hours rows part c.args.count c.in_ok-even.even.greatest packing.keep c.loop-keep.each.items (take at tolerances) more c.loop-keep.invariant refl
+    (packings-more c.args.ranks hours rows part c.args.count c.in_ok-even.even.greatest packing.keep c.loop-keep.each.items
+    (take at tolerances) more c.loop-keep.invariant refl
     (record {
       packing = packed-rows c.args.ranks hours rows part c.args.count parts heats inodes even packing of is;
       balanced = packed-evenly c.args.ranks hours rows part c.args.count parts heats inodes even packing of is by_heat;

@@ -4,7 +4,8 @@ use Rattle.ceph_plan.specs.declared.candidate.Candidate.{Candidate}
 use Rattle.ceph_plan.specs.declared.choice.Wanted.{Wanted}
 use Rattle.ceph_plan.proofs.Picking.{IsBestSoFar, best-new, best-old, not-before}
 use Rattle.ceph_plan.proofs.pick.cheapest.Goals as goal
-use Rattle.ceph_plan.proofs.pick.cheapest.Goals.{then-is_fit+then-is_before, else-is_fit, else-is_fit-via-then-is_fit+else-is_before, else-is_fit-via-else-is_fit}
+use Rattle.ceph_plan.proofs.pick.cheapest.Goals.{then-is_fit+then-is_before, else-is_fit}
+use Rattle.ceph_plan.proofs.pick.cheapest.Goals.{else-is_fit-via-then-is_fit+else-is_before, else-is_fit-via-else-is_fit}
 
 pub loop-at-preserved : goal.loop-at-preserved
 loop-at-preserved c =
@@ -22,7 +23,8 @@ loop-at-preserved c =
           subst (IsBestSoFar limit wanted candidates (at + 1)) (sym w.best-is)
           (best-old limit wanted candidates at best c.loop-at-test.true c.loop-at.invariant (λ cool few. elim w.else-is_fit.branch [
             | else-is_fit-via-then-is_fit+else-is_before v ↦
-                not-before candidates at best c.loop-at.invariant.size (λ before. both_ways v.is_before.result v.if-is_before.false (v.is_before.ensures.1 before))
+                not-before candidates at best c.loop-at.invariant.size
+                (λ before. both_ways v.is_before.result v.if-is_before.false (v.is_before.ensures.1 before))
             | else-is_fit-via-else-is_fit v ↦ absurd (both_ways c.is_fit.result v.if-is_fit.false (c.is_fit.ensures.1 (cool, few)))
           ]))
     ]

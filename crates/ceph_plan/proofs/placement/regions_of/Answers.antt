@@ -18,11 +18,13 @@ loop-i-preserved c =
     elim c.if-next-count.branch [
       | then-next-count+in_ok-push-2 w ↦ inl (
         omega (arith, w.if-next-count.true, count),
-        rw w.rank-is (w.in_ok-push-2.ensures.items ∙ ap (λ (x : ℕ). rank ++ x ∷ []) (get_or_read c.args.goals.now i w.index-goals-i.result inside w.index-goals-i.is 0)),
+        rw w.rank-is (w.in_ok-push-2.ensures.items ∙ ap (λ (x : ℕ). rank ++ x ∷ [])
+            (get_or_read c.args.goals.now i w.index-goals-i.result inside w.index-goals-i.is 0)),
       )
       | else-next-count w ↦ inr (λ same. absurd (w.if-next-count.false (same ∙ sym count)), rw w.rank-is refl)
     ] in
-    region-step c.args.rows.now c.args.goals.now c.loop-i.part.items c.push.new.self.items rank rank2 i next c.requires.forest c.loop-i-test.true c.in_ok-push.ensures.items
+    region-step c.args.rows.now c.args.goals.now c.loop-i.part.items c.push.new.self.items rank rank2 i next c.requires.forest
+    c.loop-i-test.true c.in_ok-push.ensures.items
     (λ is. c.next_region-next.ensures.new is ∙ count)
     (λ is. c.next_region-next.ensures.same is ∙ ap (λ (xs : List ℕ). slice_index xs (parent_at c.args.rows.now i)) c.deref.ensures.value)
     how c.loop-i.invariant

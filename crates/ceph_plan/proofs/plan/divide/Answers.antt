@@ -22,7 +22,8 @@ pack-requires-clause-few c = le_trans c.in_ok-cut.ensures.few c.requires.few
 
 pub pack-requires-clause-parts : goal.pack-requires-clause-parts
 pack-requires-clause-parts c =
-    parts-found c.args.of.now.rows.now c.deref.result.now c.args.size.cap c.args.size.parts c.in_ok-cut.field-0 c.deref-3.result.now c.deref-3.ensures.value c.args.of.now.forest
+    parts-found c.args.of.now.rows.now c.deref.result.now c.args.size.cap c.args.size.parts c.in_ok-cut.field-0 c.deref-3.result.now
+    c.deref-3.ensures.value c.args.of.now.forest
     (c.deref.ensures.value ∙ c.in_ok-capped.ensures) c.in_ok-cut.ensures
 
 pub returns-clause-divided : goal.returns-clause-divided
@@ -36,7 +37,8 @@ returns-clause-divided c =
       forest = c.args.of.now.forest;
       size = found.cut.size ∙ length-map rows (capped_row cap);
       division = division-capped cap rows _ _ found.cut.parts.division;
-      packings = subst (λ (part : List ℕ). ArePackings c.args.of.now.ranks c.args.of.now.hours.now rows part best.cut.count c.in_ok-packings.packings.even c.in_ok-packings.packings.each.items)
+      packings = subst (λ (part : List ℕ). ArePackings c.args.of.now.ranks c.args.of.now.hours.now rows part best.cut.count
+          c.in_ok-packings.packings.even c.in_ok-packings.packings.each.items)
           c.deref-3.ensures.value c.in_ok-packings.ensures;
       few = found.few;
       greatest = best.greatest;

@@ -28,8 +28,10 @@ loop-left-init c =
     let n : ℕ = length heats in
     let zero : c.default.result ≡ 0 = sym c.default.ensures.1 ∙ c.default.ensures.2 in
     let rank_is : c.in_ok-rank.rank.items ≡ replicate n 0 = c.in_ok-rank.ensures.items_if_clones_equal (λ y is. is) ∙ ap (λ (x : ℕ). replicate n x) zero in
-    packed-first c.args.parts.now.ranks hours heats c.args.parts.now.inodes.now c.args.parts.now.order.now root c.args.limit c.in_ok-rank.rank.items c.in_ok-done.done.items c.add.new.loads.items n c.args.parts.now.are.by_heat refl
-    c.args.parts.now.are.inside c.args.parts.now.are.zero rank_is (c.in_ok-done.ensures.items_if_clones_equal (λ y is. is)) (c.add.ensures.size ∙ c.in_ok-loads.ensures.size)
+    packed-first c.args.parts.now.ranks hours heats c.args.parts.now.inodes.now c.args.parts.now.order.now root c.args.limit
+    c.in_ok-rank.rank.items c.in_ok-done.done.items c.add.new.loads.items n c.args.parts.now.are.by_heat refl
+    c.args.parts.now.are.inside c.args.parts.now.are.zero rank_is (c.in_ok-done.ensures.items_if_clones_equal (λ y is. is))
+    (c.add.ensures.size ∙ c.in_ok-loads.ensures.size)
     (λ h r l small. c.add.ensures.added h r l small ∙ ap (λ (x : ℕ). x + cond (eqb 0 r) (heat_in hours h root) 0) (c.in_ok-loads.ensures.pinned h r l small))
 
 pub offset_bounds-parts-left : goal.offset_bounds-parts-left
@@ -40,16 +42,21 @@ bounds-parts-left c = omega (arith, c.loop-left.invariant.within, c.args.parts.n
 
 pub rank_for-to-requires : goal.rank_for-to-requires
 rank_for-to-requires c = record {
-  room = subst (λ (xs : List ℕ). CanTake c.args.parts.now.hours.now (length c.args.parts.now.heats.now) xs (get_or c.args.parts.now.order.now (c.loop-left.left - 1) 0)) (sym c.deref.ensures.value)
-      (load-room c.args.parts.now.ranks c.args.parts.now.hours.now c.args.parts.now.heats.now c.args.parts.now.inodes.now c.args.parts.now.order.now c.args.parts.now.root c.args.limit c.loop-left.rank.items
-      c.loop-left.done.items c.loop-left.loads.items c.loop-left.left (get_or c.args.parts.now.order.now (c.loop-left.left - 1) 0) c.loop-left.invariant c.args.parts.now.are.hours_are
+  room = subst (λ (xs : List ℕ). CanTake c.args.parts.now.hours.now (length c.args.parts.now.heats.now) xs
+      (get_or c.args.parts.now.order.now (c.loop-left.left - 1) 0)) (sym c.deref.ensures.value)
+      (load-room c.args.parts.now.ranks c.args.parts.now.hours.now c.args.parts.now.heats.now c.args.parts.now.inodes.now
+      c.args.parts.now.order.now c.args.parts.now.root c.args.limit c.loop-left.rank.items
+      c.loop-left.done.items c.loop-left.loads.items c.loop-left.left (get_or c.args.parts.now.order.now (c.loop-left.left - 1) 0)
+      c.loop-left.invariant c.args.parts.now.are.hours_are
       (c.args.parts.now.are.by_heat.inside (c.loop-left.left - 1) (omega (arith, c.loop-left.invariant.within, c.loop-left-test.true))));
 }
 
 pub add-requires-then-not-index-clause-room : goal.add-requires-then-not-index-clause-room
 add-requires-then-not-index-clause-room c = λ h l.
-    (load-room c.args.parts.now.ranks c.args.parts.now.hours.now c.args.parts.now.heats.now c.args.parts.now.inodes.now c.args.parts.now.order.now c.args.parts.now.root c.args.limit c.loop-left.rank.items
-    c.loop-left.done.items c.loop-left.loads.items c.loop-left.left (get_or c.args.parts.now.order.now (c.loop-left.left - 1) 0) c.loop-left.invariant c.args.parts.now.are.hours_are
+    (load-room c.args.parts.now.ranks c.args.parts.now.hours.now c.args.parts.now.heats.now c.args.parts.now.inodes.now
+    c.args.parts.now.order.now c.args.parts.now.root c.args.limit c.loop-left.rank.items
+    c.loop-left.done.items c.loop-left.loads.items c.loop-left.left (get_or c.args.parts.now.order.now (c.loop-left.left - 1) 0)
+    c.loop-left.invariant c.args.parts.now.are.hours_are
     (c.args.parts.now.are.by_heat.inside (c.loop-left.left - 1) (omega (arith, c.loop-left.invariant.within, c.loop-left-test.true)))).room h c.from.result l
     (omega (arith, c.from.ensures, c.number.ensures.small))
 
@@ -75,7 +82,8 @@ loop-left-preserved-then-not-index c =
     let inside : part < length heats = c.args.parts.now.are.by_heat.inside (c.loop-left.left - 1) there in
     let same : c.from.result ≡ c.rank_for-to.result = c.from.ensures ∙ c.number.ensures.value in
     let marked : part < length c.loop-left.done.items = omega (arith, inside, c.loop-left.invariant.size) in
-    packed-more c.args.parts.now.ranks hours heats c.args.parts.now.inodes.now c.args.parts.now.order.now c.args.parts.now.root c.args.limit c.loop-left.rank.items c.loop-left.done.items loads
+    packed-more c.args.parts.now.ranks hours heats c.args.parts.now.inodes.now c.args.parts.now.order.now c.args.parts.now.root c.args.limit
+    c.loop-left.rank.items c.loop-left.done.items loads
     c.loop-left.left (c.loop-left.left - 1) part c.rank_for-to.result c.add-then-not-index.new.loads.items c.loop-left.invariant there refl
     (sym (get_or_default c.loop-left.done.items part c.index.result.now false marked) ∙ (sym c.index.ensures ∙ c.if-not-index.true))
     c.rank_for-to.ensures.usable c.args.parts.now.are.greatest
@@ -90,15 +98,19 @@ pub loop-left-preserved : goal.loop-left-preserved
 loop-left-preserved c =
     let part : ℕ = get_or c.args.parts.now.order.now (c.loop-left.left - 1) 0 in
     let there : c.loop-left.left - 1 < length c.args.parts.now.heats.now = omega (arith, c.loop-left.invariant.within, c.loop-left-test.true) in
-    let marked : part < length c.loop-left.done.items = omega (arith, c.args.parts.now.are.by_heat.inside (c.loop-left.left - 1) there, c.loop-left.invariant.size) in
-    packed-none c.args.parts.now.ranks c.args.parts.now.hours.now c.args.parts.now.heats.now c.args.parts.now.inodes.now c.args.parts.now.order.now c.args.parts.now.root c.args.limit c.loop-left.rank.items
+    let marked : part < length c.loop-left.done.items =
+    omega (arith, c.args.parts.now.are.by_heat.inside (c.loop-left.left - 1) there, c.loop-left.invariant.size) in
+    packed-none c.args.parts.now.ranks c.args.parts.now.hours.now c.args.parts.now.heats.now c.args.parts.now.inodes.now
+    c.args.parts.now.order.now c.args.parts.now.root c.args.limit c.loop-left.rank.items
     c.loop-left.done.items c.loop-left.loads.items c.loop-left.left (c.loop-left.left - 1) c.loop-left.invariant
     (sym (get_or_default c.loop-left.done.items part c.index.result.now false marked) ∙ (sym c.index.ensures ∙ c.if-not-index.false))
     (omega (arith, c.loop-left-test.true))
 
-all_packed : (c : goal.After-drop-done-2) → ArePacked c.args.parts.now.ranks c.args.parts.now.hours.now c.args.parts.now.heats.now c.args.parts.now.inodes.now c.args.parts.now.order.now c.args.parts.now.root c.args.limit c.loop-left.rank.items
+all_packed : (c : goal.After-drop-done-2) → ArePacked c.args.parts.now.ranks c.args.parts.now.hours.now c.args.parts.now.heats.now
+    c.args.parts.now.inodes.now c.args.parts.now.order.now c.args.parts.now.root c.args.limit c.loop-left.rank.items
     c.loop-left.done.items c.loop-left.loads.items 0
-all_packed c = subst (λ (n : ℕ). ArePacked c.args.parts.now.ranks c.args.parts.now.hours.now c.args.parts.now.heats.now c.args.parts.now.inodes.now c.args.parts.now.order.now c.args.parts.now.root c.args.limit c.loop-left.rank.items
+all_packed c = subst (λ (n : ℕ). ArePacked c.args.parts.now.ranks c.args.parts.now.hours.now c.args.parts.now.heats.now
+    c.args.parts.now.inodes.now c.args.parts.now.order.now c.args.parts.now.root c.args.limit c.loop-left.rank.items
     c.loop-left.done.items c.loop-left.loads.items n)
     (omega (arith, c.loop-left-test.false)) c.loop-left.invariant
 
@@ -118,7 +130,9 @@ greatest_is c =
 pub returns-clause-near_mean : goal.returns-clause-near_mean
 returns-clause-near_mean c = λ plain.
     subst (λ (x : ℕ). IsNearMean c.args.parts.now.ranks c.args.parts.now.hours.now c.args.parts.now.heats.now c.args.parts.now.root x) (sym (greatest_is c))
-    (fair-all _ _ _ _ _ _ _ _ _ (subst (λ (limit : ℕ). ArePacked c.args.parts.now.ranks c.args.parts.now.hours.now c.args.parts.now.heats.now c.args.parts.now.inodes.now c.args.parts.now.order.now c.args.parts.now.root limit c.loop-left.rank.items
+    (fair-all _ _ _ _ _ _ _ _ _
+    (subst (λ (limit : ℕ). ArePacked c.args.parts.now.ranks c.args.parts.now.hours.now c.args.parts.now.heats.now
+    c.args.parts.now.inodes.now c.args.parts.now.order.now c.args.parts.now.root limit c.loop-left.rank.items
     c.loop-left.done.items c.loop-left.loads.items 0) plain (all_packed c)))
 
 pub returns-clause-greatest : goal.returns-clause-greatest

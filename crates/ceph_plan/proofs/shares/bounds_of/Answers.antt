@@ -16,7 +16,8 @@ loop-hour-preserved c =
     let there : slice_get hours i ≡ Some hour = slice_get_read hours (length hours) i hour refl c.loop-hour-test.true c.hour-item.is in
     record {
       size = ap length c.in_ok-push.ensures.items ∙ simp length-append (omega (arith, c.loop-hour.invariant.size));
-      bounds = more-numbers (λ (h bound : ℕ). IsBoundOfHour ranks (pinned_in hours h) (heats_in hours h) bound) c.loop-hour.bounds.items c.push.new.self.items i c.hour_bound.result
+      bounds = more-numbers (λ (h bound : ℕ). IsBoundOfHour ranks (pinned_in hours h) (heats_in hours h) bound) c.loop-hour.bounds.items
+          c.push.new.self.items i c.hour_bound.result
           c.loop-hour.invariant.size c.in_ok-push.ensures.items
           (subst (λ (xs : List ℕ). IsBoundOfHour ranks xs (heats_in hours i) c.hour_bound.result) (sym (pinned-there hours i hour there))
           (subst (λ (xs : List ℕ). IsBoundOfHour ranks hour.pinned.items xs c.hour_bound.result) (sym (heats-there hours i hour there)) c.hour_bound.ensures))

@@ -17,7 +17,8 @@ with_shares-requires-clause-small c =
     subst (λ (those : List Hour). (h i : ℕ) → h < length those → i < n → heat_in those h i ≤ 2 ^ 57) (sym c.deref-2.ensures.value)
     (λ h i l inside.
     let there : h < length hours = omega (arith, l, c.in_ok-shares.ensures.size) in
-    small-share hours shares n (length hours) (slice_index c.deref.result.now h) (slice_index c.args.weights.now h) h i c.requires.hours there (c.in_ok-shares.ensures.heats h there) inside)
+    small-share hours shares n (length hours) (slice_index c.deref.result.now h) (slice_index c.args.weights.now h) h i c.requires.hours
+    there (c.in_ok-shares.ensures.heats h there) inside)
 
 pub returns : goal.returns
 returns c =
@@ -34,9 +35,11 @@ returns c =
       bounds_size = c.in_ok-bounds.ensures.size;
       bounds = c.in_ok-bounds.ensures.bounds;
       size = c.in_ok-shares.ensures.size;
-      heats = subst (λ (bounds : List ℕ). (h : ℕ) → h < length hours → CountFor (length hours) (slice_index bounds h) (slice_index weights h) (heats_in hours h) (heats_in shares h))
+      heats = subst (λ (bounds : List ℕ). (h : ℕ) → h < length hours
+          → CountFor (length hours) (slice_index bounds h) (slice_index weights h) (heats_in hours h) (heats_in shares h))
           c.deref.ensures.value c.in_ok-shares.ensures.heats;
-      pinned = subst (λ (bounds : List ℕ). (h : ℕ) → h < length hours → CountFor (length hours) (slice_index bounds h) (slice_index weights h) (pinned_in hours h) (pinned_in shares h))
+      pinned = subst (λ (bounds : List ℕ). (h : ℕ) → h < length hours
+          → CountFor (length hours) (slice_index bounds h) (slice_index weights h) (pinned_in hours h) (pinned_in shares h))
           c.deref.ensures.value c.in_ok-shares.ensures.pinned;
       rows_size = c.in_ok-rows.ensures.size;
       rows_are = rows_are;

@@ -20,12 +20,16 @@ loop-h-preserved c =
     let there : slice_get hours h ≡ Some hour = slice_get_read hours n h hour refl c.loop-h-test.true c.index-hours-h.is in
     record {
       size = ap length c.in_ok-push.ensures.items ∙ simp length-append (omega (arith, c.loop-h.invariant.size));
-      heats = more-hours (λ (k : ℕ) (o : Option Hour). CountFor n (slice_index bounds k) (slice_index weights k) (heats_in hours k) (option_map_or (λ (one : Hour). one.heats.items) o []))
+      heats = more-hours (λ (k : ℕ) (o : Option Hour). CountFor n (slice_index bounds k) (slice_index weights k) (heats_in hours k)
+          (option_map_or (λ (one : Hour). one.heats.items) o []))
           c.loop-h.found.items c.push.new.self.items h new c.loop-h.invariant.size c.in_ok-push.ensures.items
-          (subst (λ (xs : List ℕ). CountFor n (slice_index bounds h) (slice_index weights h) xs new.heats.items) (sym (heats-there hours h hour there)) c.in_ok-share_hour.ensures.heats)
+          (subst (λ (xs : List ℕ). CountFor n (slice_index bounds h) (slice_index weights h) xs new.heats.items)
+          (sym (heats-there hours h hour there)) c.in_ok-share_hour.ensures.heats)
           c.loop-h.invariant.heats;
-      pinned = more-hours (λ (k : ℕ) (o : Option Hour). CountFor n (slice_index bounds k) (slice_index weights k) (pinned_in hours k) (option_map_or (λ (one : Hour). one.pinned.items) o []))
+      pinned = more-hours (λ (k : ℕ) (o : Option Hour). CountFor n (slice_index bounds k) (slice_index weights k) (pinned_in hours k)
+          (option_map_or (λ (one : Hour). one.pinned.items) o []))
           c.loop-h.found.items c.push.new.self.items h new c.loop-h.invariant.size c.in_ok-push.ensures.items
-          (subst (λ (xs : List ℕ). CountFor n (slice_index bounds h) (slice_index weights h) xs new.pinned.items) (sym (pinned-there hours h hour there)) c.in_ok-share_hour.ensures.pinned)
+          (subst (λ (xs : List ℕ). CountFor n (slice_index bounds h) (slice_index weights h) xs new.pinned.items)
+          (sym (pinned-there hours h hour there)) c.in_ok-share_hour.ensures.pinned)
           c.loop-h.invariant.pinned;
     }

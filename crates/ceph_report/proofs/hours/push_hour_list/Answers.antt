@@ -16,5 +16,6 @@ unfolding hour_list
 returns c =
     let end : c.loop-at.at ≡ length c.args.hours.now = omega (arith, c.loop-at-test.false, c.loop-at.auto.at-end) in
     on_ok_weaker c.push_text-2.result
-    (λ e. below_framed (λ h. hour_member h (slice_get c.args.hours.now h)) _ _ _ _ _ _ c.loop-at.at (length c.args.hours.now) c.in_ok-push_text.ensures c.loop-at.invariant end e)
+    (λ e. below_framed (λ h. hour_member h (slice_get c.args.hours.now h)) _ _ _ _ _ _ c.loop-at.at (length c.args.hours.now)
+    c.in_ok-push_text.ensures c.loop-at.invariant end e)
     c.push_text-2.ensures

@@ -6,5 +6,12 @@ use Rattle.ceph_report.proofs.json.push_pins_of.Goals as goal
 pub returns : goal.returns
 unfolding pin_members
 returns c = on_ok_weaker c.push_text-3.result
-    (λ e. e ∙ simp (append_assoc, c.in_ok-push_pin_rank-2.ensures, c.in_ok-push_text-2.ensures, c.in_ok-push_pin_rank.ensures, c.before_pin.ensures, c.in_ok-push_text.ensures))
+    (λ e. e ∙ simp (
+      append_assoc,
+      c.in_ok-push_pin_rank-2.ensures,
+      c.in_ok-push_text-2.ensures,
+      c.in_ok-push_pin_rank.ensures,
+      c.before_pin.ensures,
+      c.in_ok-push_text.ensures,
+    ))
     c.push_text-3.ensures

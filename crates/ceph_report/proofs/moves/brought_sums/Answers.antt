@@ -17,8 +17,10 @@ loop-at-preserved c =
     let by : ℕ → ℕ → ℕ = λ (n r : ℕ). brought_by c.args.what c.args.directories.now c.args.holds.now c.args.rows.now leaders n r in
     record {
       size = length-set items leader c.saturating_add.result ∙ size;
-      sums = sums_more items (by at) (by (at + 1)) (length c.args.rows.now) leader c.leaving_at-more.result c.saturating_add.result size c.loop-at.invariant.sums inside (omega (arith, here, c.saturating_add.ensures))
-          (λ r. brought_step c.args.what c.args.directories.now c.args.holds.now c.args.rows.now leaders r at leader c.leaving_at-more.result refl c.leaving_at-more.ensures);
+      sums = sums_more items (by at) (by (at + 1)) (length c.args.rows.now) leader c.leaving_at-more.result c.saturating_add.result size
+          c.loop-at.invariant.sums inside (omega (arith, here, c.saturating_add.ensures))
+          (λ r. brought_step c.args.what c.args.directories.now c.args.holds.now c.args.rows.now leaders r at leader
+          c.leaving_at-more.result refl c.leaving_at-more.ensures);
     }
 
 pub returns : goal.returns

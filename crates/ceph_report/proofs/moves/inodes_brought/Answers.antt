@@ -17,11 +17,13 @@ returns c =
     let leaders : List ℕ = c.in_ok-leaders.leaders.items in
     let inodes : List ℕ = c.in_ok-inodes.inodes.items in
     let led : AreLeaders (parent_at rows) (λ (i : ℕ). is_some (get_or pins i None)) (length rows) leaders =
-    subst (λ (ps : List (Option ℕ)). AreLeaders (parent_at rows) (λ (i : ℕ). is_some (get_or ps i None)) (length rows) leaders) c.deref.ensures.value c.in_ok-leaders.ensures.led in
+    subst (λ (ps : List (Option ℕ)). AreLeaders (parent_at rows) (λ (i : ℕ). is_some (get_or ps i None)) (length rows) leaders)
+    c.deref.ensures.value c.in_ok-leaders.ensures.led in
     record {
       leaders = leaders;
       led = leaders_same (parent_at rows) (λ (i : ℕ). is_some (get_or pins i None)) (is_pinned_after rows c.args.changes.now) (length rows) leaders
           (λ i below. ap (λ (pin : Option ℕ). is_some pin) (c.in_ok-pins.ensures.pins i below)) led;
       size = c.in_ok-inodes.ensures.size;
-      each = subst (λ (ls : List ℕ). (i : ℕ) → i < length rows → get_or inodes i 0 ≡ brought_at Inodes ds holds rows ls i) c.deref-2.ensures.value c.in_ok-inodes.ensures.sums;
+      each = subst (λ (ls : List ℕ). (i : ℕ) → i < length rows → get_or inodes i 0 ≡ brought_at Inodes ds holds rows ls i)
+          c.deref-2.ensures.value c.in_ok-inodes.ensures.sums;
     }

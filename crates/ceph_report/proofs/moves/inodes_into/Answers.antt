@@ -17,13 +17,22 @@ loop-at-preserved c =
     let at : ℕ = c.loop-at.at in
     let small : c.from-number.result < 64 = search rules in
     let inside : c.from-number.result < length c.loop-at.inodes.items = omega (arith, small, c.loop-at.invariant.size) in
-    let here : c.index.result.now ≡ get_or c.loop-at.inodes.items c.from-number.result 0 = get_or_read c.loop-at.inodes.items c.from-number.result c.index.result.now inside c.index.ensures 0 in
+    let here : c.index.result.now ≡ get_or c.loop-at.inodes.items c.from-number.result 0 =
+    get_or_read c.loop-at.inodes.items c.from-number.result c.index.result.now inside c.index.ensures 0 in
     let before : at < length ds = omega (arith, c.loop-at-test.true) in
-    let read : slice_get ds at ≡ Some c.index-directories-at.result = slice_get_read ds (length ds) at c.index-directories-at.result refl before c.index-directories-at.is in
-    let held : c.index-holds-at.result ≡ held_at holds at = get_or_read holds at c.index-holds-at.result (omega (arith, before, c.requires.holds)) c.index-holds-at.is Free in
-    let to : c.index-goals-at-in-loop-at.result ≡ get_or goals at 0 = get_or_read goals at c.index-goals-at-in-loop-at.result (omega (arith, before, c.requires.goals)) c.index-goals-at-in-loop-at.is 0 in
-    let number : c.from-number.result ≡ get_or goals at 0 = c.from-number.ensures ∙ (c.number.ensures.value ∙ get_or_read goals at c.index-goals-at.result (omega (arith, before, c.requires.goals)) c.index-goals-at.is 0) in
-    let amount : c.going-more.result ≡ going_at ds holds goals at = c.going-more.ensures ∙ going_is ds holds goals at c.index-directories-at.result c.index-holds-at.result c.index-goals-at-in-loop-at.result read held to in
+    let read : slice_get ds at ≡ Some c.index-directories-at.result =
+    slice_get_read ds (length ds) at c.index-directories-at.result refl before c.index-directories-at.is in
+    let held : c.index-holds-at.result ≡ held_at holds at =
+    get_or_read holds at c.index-holds-at.result (omega (arith, before, c.requires.holds)) c.index-holds-at.is Free in
+    let to : c.index-goals-at-in-loop-at.result ≡ get_or goals at 0 =
+    get_or_read goals at c.index-goals-at-in-loop-at.result (omega (arith, before, c.requires.goals)) c.index-goals-at-in-loop-at.is
+    0 in
+    let number : c.from-number.result ≡ get_or goals at 0 = c.from-number.ensures
+    ∙ (c.number.ensures.value ∙ get_or_read goals at c.index-goals-at.result (omega (arith, before, c.requires.goals))
+    c.index-goals-at.is 0) in
+    let amount : c.going-more.result ≡ going_at ds holds goals at = c.going-more.ensures
+    ∙ going_is ds holds goals at c.index-directories-at.result c.index-holds-at.result c.index-goals-at-in-loop-at.result read held
+    to in
     amounts_more c.loop-at.inodes.items
     (λ r. inodes_to ds holds goals r at)
     (λ r. inodes_to ds holds goals r (at + 1))

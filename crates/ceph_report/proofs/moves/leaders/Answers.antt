@@ -17,7 +17,8 @@ loop-at-preserved c =
     let inside : at < length rows = omega arith in
     let read : PinRow = get_or rows at c.index-rows-at.result in
     let row : read ≡ row_at rows at = sym c.index-rows-at.is ∙ get_or_read rows at c.index-rows-at.result inside c.index-rows-at.is no_row in
-    let read_pin : c.index-pins-at.result ≡ get_or c.args.pins.now at None = get_or_read c.args.pins.now at c.index-pins-at.result (omega (arith, inside, c.requires)) c.index-pins-at.is None in
+    let read_pin : c.index-pins-at.result ≡ get_or c.args.pins.now at None =
+    get_or_read c.args.pins.now at c.index-pins-at.result (omega (arith, inside, c.requires)) c.index-pins-at.is None in
     let pin : c.is_some-is_pinned.result ≡ pins at = c.is_some-is_pinned.ensures ∙ ap (λ (p : Option ℕ). is_some p) read_pin in
     let is : one ≡ leader_of (pins at) (parent_at rows at) at items =
     c.leader-one.ensures.is

@@ -5,4 +5,6 @@ use Rattle.ceph_report.proofs.report.push_hottest.Goals as goal
 
 pub returns : goal.returns
 unfolding hottest_line
-returns c = on_ok_weaker c.push_text-2.result (λ e. e ∙ simp (append_assoc, c.in_ok-push_path.ensures, c.in_ok-push_text.ensures, c.in_ok-push_heat.ensures, c.deref.ensures.value)) c.push_text-2.ensures
+returns c = on_ok_weaker c.push_text-2.result (λ e. e
+    ∙ simp (append_assoc, c.in_ok-push_path.ensures, c.in_ok-push_text.ensures, c.in_ok-push_heat.ensures, c.deref.ensures.value))
+    c.push_text-2.ensures

@@ -8,7 +8,8 @@ pub loop-at-init : goal.loop-at-init
 loop-at-init c = below_none (λ i. brought_line c.args.directories.now (slice_get c.args.moves.now i)) _
 
 pub loop-at-preserved : goal.loop-at-preserved
-loop-at-preserved c = below_more (λ i. brought_line c.args.directories.now (slice_get c.args.moves.now i)) _ _ _ c.loop-at.at c.loop-at.invariant c.in_ok-push_move.ensures
+loop-at-preserved c = below_more (λ i. brought_line c.args.directories.now (slice_get c.args.moves.now i)) _ _ _ c.loop-at.at
+    c.loop-at.invariant c.in_ok-push_move.ensures
 
 pub returns : goal.returns
 unfolding brought_lines

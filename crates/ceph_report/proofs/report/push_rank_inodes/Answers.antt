@@ -5,4 +5,12 @@ use Rattle.ceph_report.proofs.report.push_rank_inodes.Goals as goal
 
 pub returns : goal.returns
 unfolding rank_inodes
-returns c = on_ok_weaker c.push_columns-2.result (λ e. e ∙ simp (append_assoc, c.in_ok-push_columns.ensures, c.number_at.ensures, c.number_at-2.ensures, c.deref.ensures.value, c.deref-2.ensures.value)) c.push_columns-2.ensures
+returns c = on_ok_weaker c.push_columns-2.result (λ e. e
+    ∙ simp (
+      append_assoc,
+      c.in_ok-push_columns.ensures,
+      c.number_at.ensures,
+      c.number_at-2.ensures,
+      c.deref.ensures.value,
+      c.deref-2.ensures.value,
+    )) c.push_columns-2.ensures

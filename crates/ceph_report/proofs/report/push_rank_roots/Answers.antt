@@ -5,4 +5,13 @@ use Rattle.ceph_report.proofs.report.push_rank_roots.Goals as goal
 
 pub returns : goal.returns
 unfolding rank_roots
-returns c = on_ok_weaker c.push_text.result (λ e. e ∙ simp (append_assoc, c.in_ok-push_columns-2.ensures, c.in_ok-push_columns.ensures, c.number_at.ensures, c.number_at-2.ensures, c.deref.ensures.value, c.deref-2.ensures.value)) c.push_text.ensures
+returns c = on_ok_weaker c.push_text.result (λ e. e
+    ∙ simp (
+      append_assoc,
+      c.in_ok-push_columns-2.ensures,
+      c.in_ok-push_columns.ensures,
+      c.number_at.ensures,
+      c.number_at-2.ensures,
+      c.deref.ensures.value,
+      c.deref-2.ensures.value,
+    )) c.push_text.ensures

@@ -7,7 +7,8 @@ use Rattle.ceph_report.proofs.Totals.{amounts_more}
 use Rattle.ceph_report.proofs.roots.root_counts.Goals as goal
 
 -- what one directory more adds
-root_step : (directories : List Directory) (rank : ℕ → ℕ) (own : ℕ → Option ℕ) (r at number more : ℕ) → number ≡ rank at → more ≡ cond (is_root directories rank own at) 1 0
+root_step : (directories : List Directory) (rank : ℕ → ℕ) (own : ℕ → Option ℕ) (r at number more : ℕ) → number ≡ rank at
+    → more ≡ cond (is_root directories rank own at) 1 0
     → root_count directories rank own r (at + 1) ≡ root_count directories rank own r at + cond (eqb number r) more 0
 root_step directories rank own r at number more is amount =
     let next : at + 1 ≡ suc at = omega arith in
@@ -20,7 +21,8 @@ loop-at-preserved c =
     let at : ℕ = c.loop-at.at in
     let small : c.from-number.result < 64 = search rules in
     let inside : c.from-number.result < length c.loop-at.counts.items = omega (arith, small, c.loop-at.invariant.size) in
-    let here : c.index.result.now ≡ get_or c.loop-at.counts.items c.from-number.result 0 = get_or_read c.loop-at.counts.items c.from-number.result c.index.result.now inside c.index.ensures 0 in
+    let here : c.index.result.now ≡ get_or c.loop-at.counts.items c.from-number.result 0 =
+    get_or_read c.loop-at.counts.items c.from-number.result c.index.result.now inside c.index.ensures 0 in
     let number : c.from-number.result ≡ rank at = c.from-number.ensures ∙ (c.number.ensures.value ∙ c.rank_at.ensures) in
     amounts_more c.loop-at.counts.items
     (λ r. root_count c.args.directories.now rank own r at)

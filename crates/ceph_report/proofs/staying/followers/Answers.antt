@@ -16,7 +16,8 @@ loop-at-preserved c =
     let here : c.index.result.now ≡ get_or items leader 0 = get_or_read items leader c.index.result.now (omega (arith, inside, size)) c.index.ensures 0 in
     record {
       size = length-set items leader c.saturating_add.result ∙ size;
-      counts = sums_more items (followers leaders at) (followers leaders (at + 1)) (length leaders) leader c.follows-more.result c.saturating_add.result size c.loop-at.invariant.counts inside (omega (arith, here, c.saturating_add.ensures))
+      counts = sums_more items (followers leaders at) (followers leaders (at + 1)) (length leaders) leader c.follows-more.result
+          c.saturating_add.result size c.loop-at.invariant.counts inside (omega (arith, here, c.saturating_add.ensures))
           (λ r. followers_step leaders r at leader c.follows-more.result refl c.follows-more.ensures);
     }
 

@@ -19,7 +19,9 @@ loop-at-preserved c =
     let at : ℕ = c.loop-at.at in
     record {
       text = below_more (left_at c.args.form c.args.directories.now stays) _ _ _ at c.loop-at.invariant.text
-          (c.in_ok-count.ensures.text ∙ ap (λ (k : ℕ). c.loop-at.text.items ++ left_entry c.args.form c.args.directories.now (slice_index_or stays at None) at k) c.loop-at.invariant.count);
+          (c.in_ok-count.ensures.text
+          ∙ ap (λ (k : ℕ). c.loop-at.text.items ++ left_entry c.args.form c.args.directories.now (slice_index_or stays at None) at k)
+          c.loop-at.invariant.count);
       count = counted (is_left stays) at _ c.loop-at.count c.loop-at.invariant.count c.in_ok-count.ensures.count;
       few = few_more (is_left stays at) at _ c.loop-at.count c.loop-at.invariant.few c.in_ok-count.ensures.count;
     }

@@ -4,7 +4,8 @@ use Rattle.ceph_snapshot.proofs.gathering.top_of.Goals as goal
 
 pub returns-then-path-end-eq47-clause-top : goal.returns-then-path-end-eq47-clause-top
 returns-then-path-end-eq47-clause-top c =
-    top_at c.args.path.now c.loop-end.end (omega (arith, c.loop-end.auto.end)) (omega (arith, c.loop-end-test.true)) c.loop-end.invariant (λ l. c.if-path-end-eq47.true)
+    top_at c.args.path.now c.loop-end.end (omega (arith, c.loop-end.auto.end)) (omega (arith, c.loop-end-test.true)) c.loop-end.invariant
+    (λ l. c.if-path-end-eq47.true)
 
 pub returns-then-path-end-eq47-clause-user : goal.returns-then-path-end-eq47-clause-user
 returns-then-path-end-eq47-clause-user c = user_top c.args.path.now c.loop-end.end (omega (arith, c.loop-end.auto.end))

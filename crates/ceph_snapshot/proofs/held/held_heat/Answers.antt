@@ -10,4 +10,5 @@ returns-clause-heats c = λ r l.
     let same : (i : ℕ) → i < length ds → slice_index c.deref.result.now i ≡ heat_at ds i =
     λ i inside. ap (λ (xs : List ℕ). slice_index xs i) c.deref.ensures.value ∙ c.in_ok-heats.ensures.heats i inside in
     c.in_ok-held.ensures.heats r l
-    ∙ ap (λ (k : ℕ). min most_heat (slice_index c.args.spread.now r + k)) (held-alike ds c.args.holds.now (slice_index c.deref.result.now) (heat_at ds) r (length ds) same)
+    ∙ ap (λ (k : ℕ). min most_heat (slice_index c.args.spread.now r + k))
+    (held-alike ds c.args.holds.now (slice_index c.deref.result.now) (heat_at ds) r (length ds) same)

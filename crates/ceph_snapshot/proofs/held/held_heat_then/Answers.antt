@@ -1,4 +1,5 @@
-use Rattle.std.proofs.Common.{◌≡◌, ◌<◌, ◌+◌, ◌∙◌, ℕ, Global, List, Option, Some, Vec, ap, false, length, length-set, min, refl, set, slice_get, slice_index, subst, sym}
+use Rattle.std.proofs.Common.{◌≡◌, ◌<◌, ◌+◌, ◌∙◌, ℕ, Global, List, Option, Some, Vec, ap}
+use Rattle.std.proofs.Common.{false, length, length-set, min, refl, set, slice_get, slice_index, subst, sym}
 use Rattle.std.specs.Option.{option_map_or}
 use Rattle.std.proofs.Math.Nat.{min_comm}
 use Rattle.std.proofs.lemmas.List.{get_or_read}
@@ -11,7 +12,8 @@ use Rattle.ceph_snapshot.proofs.Adding.{AreHeld, IsCounted, held-more, held-same
 use Rattle.ceph_snapshot.proofs.held.held_heat_then.Goals as goal
 use Rattle.ceph_snapshot.proofs.held.held_heat_then.Goals.{in-Some, in_default}
 
-counted_at : (ds : List Directory) (holds : List Held) (at : ℕ) (d : Directory) (hold : Held) (found : Option ℕ) → slice_get ds at ≡ Some d → hold ≡ held_at holds at
+counted_at : (ds : List Directory) (holds : List Held) (at : ℕ) (d : Directory) (hold : Held) (found : Option ℕ) → slice_get ds at ≡ Some d
+    → hold ≡ held_at holds at
     → IsCounted found hold d.is_spread → IsCounted found (held_at holds at) (is_spread_at ds at)
 counted_at ds holds at d hold found read is counts =
     subst (λ (h : Held). IsCounted found h (is_spread_at ds at)) is
@@ -27,15 +29,19 @@ loop-at-preserved c =
     let d : Directory = c.index-directories-at.result in
     let inside : at < length ds = c.loop-at-test.true in
     let read : slice_get ds at ≡ Some d = slice_get_read ds (length ds) at d refl inside c.index-directories-at.is in
-    let hold : c.index-holds-at.result ≡ held_at holds at = get_or_read holds at c.index-holds-at.result (subst (λ (n : ℕ). at < n) (sym c.requires.holds) inside) c.index-holds-at.is Free in
-    let counts : IsCounted c.counted.result (held_at holds at) (is_spread_at ds at) = counted_at ds holds at d c.index-holds-at.result c.counted.result read hold c.counted.ensures in
+    let hold : c.index-holds-at.result ≡ held_at holds at =
+    get_or_read holds at c.index-holds-at.result (subst (λ (n : ℕ). at < n) (sym c.requires.holds) inside) c.index-holds-at.is Free in
+    let counts : IsCounted c.counted.result (held_at holds at) (is_spread_at ds at) =
+    counted_at ds holds at d c.index-holds-at.result c.counted.result read hold c.counted.ensures in
     elim c.match-counted.branch [
       | in-Some w ↦
           let number : ℕ = w.from-number.result in
           let number_is : number ≡ w.in-Some.rank = w.from-number.ensures ∙ w.number.ensures.value in
           let small : number < 64 = subst (λ (n : ℕ). n < 64) (sym w.from-number.ensures) w.number.ensures.small in
           let sum : ℕ = w.saturating_add.result in
-          let had : w.index.result.now ≡ slice_index heats number = get_or_read heats number w.index.result.now (subst (λ (n : ℕ). number < n) (sym c.loop-at.invariant.size) small) w.index.ensures 0 in
+          let had : w.index.result.now ≡ slice_index heats number =
+          get_or_read heats number w.index.result.now (subst (λ (n : ℕ). number < n) (sym c.loop-at.invariant.size) small)
+          w.index.ensures 0 in
           let is : c.match-counted.held.items ≡ set heats number sum = ap (λ (v : Vec ℕ Global). v.items) w.held-is in
           let added : sum ≡ min most_heat (slice_index heats number + warm at) =
           w.saturating_add.ensures ∙ (min_comm _ _ ∙ ap (λ (k : ℕ). min most_heat (k + warm at)) had) in
@@ -43,7 +49,8 @@ loop-at-preserved c =
             size = ap length is ∙ (length-set heats number sum ∙ c.loop-at.invariant.size);
             heats = subst (λ (found : List ℕ). AreHeld ds holds warm c.args.spread.now found (at + 1)) (sym is)
                 (held-more ds holds warm c.args.spread.now heats at number sum c.loop-at.invariant.size small
-                (subst (λ (found : Option ℕ). IsCounted found (held_at holds at) (is_spread_at ds at)) (w.in-Some.is ∙ ap (λ (n : ℕ). Some n) (sym number_is)) counts)
+                (subst (λ (found : Option ℕ). IsCounted found (held_at holds at) (is_spread_at ds at))
+                (w.in-Some.is ∙ ap (λ (n : ℕ). Some n) (sym number_is)) counts)
                 added c.loop-at.invariant.heats);
           }
       | in_default w ↦

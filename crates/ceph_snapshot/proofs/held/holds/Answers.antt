@@ -17,7 +17,8 @@ loop-at-preserved c =
     let hold : Held = c.if-at-eq0.hold in
     let pushed : c.push.new.self.items ≡ items ++ hold ∷ [] = c.in_ok-push.ensures.items in
     let inside : at < length ds = omega arith in
-    let read : slice_get ds at ≡ Some c.index-directories-at.result = slice_get_read ds (length ds) at c.index-directories-at.result refl inside c.index-directories-at.is in
+    let read : slice_get ds at ≡ Some c.index-directories-at.result =
+    slice_get_read ds (length ds) at c.index-directories-at.result refl inside c.index-directories-at.is in
     let here : AreParentsFirst ds → IsHeld ds at hold = λ first. elim c.if-at-eq0.branch [
       | then-at-eq0 w ↦
           let is : at ≡ 0 = w.if-at-eq0.true in
@@ -26,10 +27,14 @@ loop-at-preserved c =
           let later : 0 < at = omega (arith, w.if-at-eq0.false) in
           let parent : parent_at ds at ≡ c.index-directories-at.result.parent = read_parent ds at c.index-directories-at.result read in
           let up : parent_at ds at < at = first.above at later inside in
-          let above : held_at items c.index-directories-at.result.parent ≡ w.in-Some.above.now = grind (arith, common_steps, w.deref.ensures.value, w.in-Some.ensures.lookup) in
+          let above : held_at items c.index-directories-at.result.parent
+          ≡ w.in-Some.above.now = grind (arith, common_steps, w.deref.ensures.value, w.in-Some.ensures.lookup) in
           held_more ds at w.in-Some.above.now hold later
-          (subst (λ (h : Held). IsHeld ds (parent_at ds at) h) (ap (λ (k : ℕ). held_at items k) parent ∙ above) (c.loop-at.invariant.held first (parent_at ds at) up))
-          (w.hold-is ∙ (w.next_hold.ensures ∙ (ap (λ (fixed : Bool). hold_below c.index-directories-at.result.pin fixed c.index-directories-at.result.now w.in-Some.above.now) w.is_fixed.ensures ∙ read_step ds at c.index-directories-at.result w.in-Some.above.now read)))
+          (subst (λ (h : Held). IsHeld ds (parent_at ds at) h) (ap (λ (k : ℕ). held_at items k) parent ∙ above)
+          (c.loop-at.invariant.held first (parent_at ds at) up))
+          (w.hold-is ∙ (w.next_hold.ensures
+          ∙ (ap (λ (fixed : Bool). hold_below c.index-directories-at.result.pin fixed c.index-directories-at.result.now
+          w.in-Some.above.now) w.is_fixed.ensures ∙ read_step ds at c.index-directories-at.result w.in-Some.above.now read)))
       | else-at-eq0+in-None w ↦
           let later : 0 < at = omega (arith, w.if-at-eq0.false) in
           let parent : parent_at ds at ≡ c.index-directories-at.result.parent = read_parent ds at c.index-directories-at.result read in

@@ -16,7 +16,9 @@ loop-at-preserved c =
     record {
       inside = omega (arith, c.loop-at.invariant.inside);
       heats = λ path.
-          then_more past at c.index-past-at.result path (get_by (λ key. bytes_eq path key.items) c.loop-at.heats) (get_by (λ key. bytes_eq path key.items) c.note.new.heats) inside c.index-past-at.is
+          then_more past at c.index-past-at.result path (get_by (λ key. bytes_eq path key.items) c.loop-at.heats)
+          (get_by (λ key. bytes_eq path key.items) c.note.new.heats) inside c.index-past-at.is
           (c.in_ok-note.ensures path)
-          (subst (λ (n : ℕ). unwrap_or (get_by (λ key. bytes_eq path key.items) c.loop-at.heats) 0 ≡ heat_then (drop n past) path) (sym some) (c.loop-at.invariant.heats path));
+          (subst (λ (n : ℕ). unwrap_or (get_by (λ key. bytes_eq path key.items) c.loop-at.heats) 0 ≡ heat_then (drop n past) path)
+          (sym some) (c.loop-at.invariant.heats path));
     }

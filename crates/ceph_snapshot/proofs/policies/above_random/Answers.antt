@@ -1,4 +1,5 @@
-use Rattle.std.proofs.Common.{◌≡◌, ◌<◌, ◌-◌, ◌∙◌, ◌⊎◌, ◌↔◌, ◌==◌, ◌&&◌, ◌||◌, ℕ, Bool, List, Option, Some, None, false, true, length, slice_get, refl, ap, sym, subst}
+use Rattle.std.proofs.Common.{◌≡◌, ◌<◌, ◌-◌, ◌∙◌, ◌⊎◌, ◌↔◌, ◌==◌, ◌&&◌, ◌||◌, ℕ, Bool, List}
+use Rattle.std.proofs.Common.{Option, Some, None, false, true, length, slice_get, refl, ap, sym, subst}
 use Rattle.std.specs.Option.{option_map_or}
 use Rattle.std.proofs.lemmas.List.{get_or_read}
 use Rattle.std.proofs.lemmas.Option.{slice_get_read}
@@ -31,6 +32,7 @@ loop-at-preserved c =
     record {
       size = c.mark_if.ensures.size ∙ c.loop-at.invariant.size;
       marks = λ first. beaten_more ds (is_marked marks) (is_marked c.mark_if.new.marks.items) at is_so first low inside
-          (λ i some below. subst (λ (n : ℕ). (is_marked marks i ≡ true) ↔ HasBeaten ds n i) (sym (add-back c.loop-at.at c.loop-at-test.true)) (c.loop-at.invariant.marks first i some below))
+          (λ i some below. subst (λ (n : ℕ). (is_marked marks i ≡ true) ↔ HasBeaten ds n i)
+          (sym (add-back c.loop-at.at c.loop-at-test.true)) (c.loop-at.invariant.marks first i some below))
           so made;
     }

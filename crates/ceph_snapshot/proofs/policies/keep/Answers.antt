@@ -13,8 +13,10 @@ returns-clause-kept c =
     let new : List Directory = c.mark_kept.new.directories.items in
     let marks : List Bool = c.in_ok-above.above.items in
     are_kept old new marks c.mark_kept.ensures.size
-    (subst (λ (bs : List Bool). (i : ℕ) → i < length old → slice_get new i ≡ option_map (kept_where (is_marked bs i)) (slice_get old i)) c.as_slice-2.ensures.value c.mark_kept.ensures.kept)
-    (subst (λ (ds : List Directory). AreParentsFirst ds → (i : ℕ) → 0 < i → i < length ds → (is_marked marks i ≡ true) ↔ HasBeaten ds 1 i) c.as_slice.ensures.value c.in_ok-above.ensures.marks)
+    (subst (λ (bs : List Bool). (i : ℕ) → i < length old → slice_get new i ≡ option_map (kept_where (is_marked bs i)) (slice_get old i))
+    c.as_slice-2.ensures.value c.mark_kept.ensures.kept)
+    (subst (λ (ds : List Directory). AreParentsFirst ds → (i : ℕ) → 0 < i → i < length ds → (is_marked marks i ≡ true) ↔ HasBeaten ds 1 i)
+    c.as_slice.ensures.value c.in_ok-above.ensures.marks)
 
 pub returns-clause-owner : goal.returns-clause-owner
 returns-clause-owner c =
@@ -22,7 +24,8 @@ returns-clause-owner c =
     let new : List Directory = c.mark_kept.new.directories.items in
     let marks : List Bool = c.in_ok-above.above.items in
     owner_kept old new marks c.mark_kept.ensures.size
-    (subst (λ (bs : List Bool). (i : ℕ) → i < length old → slice_get new i ≡ option_map (kept_where (is_marked bs i)) (slice_get old i)) c.as_slice-2.ensures.value c.mark_kept.ensures.kept)
+    (subst (λ (bs : List Bool). (i : ℕ) → i < length old → slice_get new i ≡ option_map (kept_where (is_marked bs i)) (slice_get old i))
+    c.as_slice-2.ensures.value c.mark_kept.ensures.kept)
 
 pub returns-clause-numbers : goal.returns-clause-numbers
 returns-clause-numbers c =
@@ -30,4 +33,5 @@ returns-clause-numbers c =
     let new : List Directory = c.mark_kept.new.directories.items in
     let marks : List Bool = c.in_ok-above.above.items in
     numbers_kept old new marks c.mark_kept.ensures.size
-    (subst (λ (bs : List Bool). (i : ℕ) → i < length old → slice_get new i ≡ option_map (kept_where (is_marked bs i)) (slice_get old i)) c.as_slice-2.ensures.value c.mark_kept.ensures.kept)
+    (subst (λ (bs : List Bool). (i : ℕ) → i < length old → slice_get new i ≡ option_map (kept_where (is_marked bs i)) (slice_get old i))
+    c.as_slice-2.ensures.value c.mark_kept.ensures.kept)

@@ -27,4 +27,5 @@ loop-at-preserved c =
           ap (λ (both : ℕ × ℕ). record { parent = d.parent; heat = both.0; inodes = both.1; now = d.now }) w.heat-is
           ∙ held-row ds holds at d _ read held w.in-Pinned.is
     ] in
-    subst (λ (rows : List ProblemRow). AreRowsOf ds holds (at + 1) rows) (sym c.in_ok-push.ensures.items) (rows-more ds holds c.loop-at.rows.items row at c.loop-at.invariant here)
+    subst (λ (rows : List ProblemRow). AreRowsOf ds holds (at + 1) rows) (sym c.in_ok-push.ensures.items)
+    (rows-more ds holds c.loop-at.rows.items row at c.loop-at.invariant here)

@@ -10,5 +10,6 @@ invariant-loop-top l = record {
   pinned : (i : ℕ) → path_pin_at l.nodes.items i ≡ path_pin_at l.fn.nodes.items i;
   account : (i : ℕ) → account_at l.nodes.items i ≡ account_at l.fn.nodes.items i;
   place : (i : ℕ) → position_at l.nodes.items i ≡ position_at l.fn.nodes.items i;
-  listed : (i : ℕ) → listed_at l.nodes.items i ≡ option_map (with_unknown (list_any (λ top. top == i) (take l.top-index l.tops))) (listed_at l.fn.nodes.items i);
+  listed : (i : ℕ) → listed_at l.nodes.items i ≡ option_map (with_unknown (list_any (λ top. top == i) (take l.top-index l.tops)))
+      (listed_at l.fn.nodes.items i);
 }

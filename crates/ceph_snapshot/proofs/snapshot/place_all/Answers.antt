@@ -23,7 +23,9 @@ loop-at-preserved c =
     let low : 0 < at → parent < at = λ some. subst (λ (p : ℕ). p < at) (sym parent_is) (c.requires.first at some inside) in
     record {
       size = length-set cur at new ∙ c.loop-at.invariant.size;
-      placed = placed_more start cur at parent d new c.above-now.result.0 c.above-now.result.1 c.loop-at.invariant.size inside (λ i some l. c.requires.first i some (omega (arith, l, inside))) c.loop-at.invariant.placed read parent_is low
+      placed = placed_more start cur at parent d new c.above-now.result.0 c.above-now.result.1 c.loop-at.invariant.size inside
+          (λ i some l. c.requires.first i some (omega (arith, l, inside))) c.loop-at.invariant.placed read parent_is low
           (rw c.deref.ensures.value at c.above-now.ensures.rank) (rw c.deref.ensures.value at c.above-now.ensures.torn) c.place.ensures;
-      rest = λ i later. at-other cur at i new (let apart : i ≢ at = λ same. absurd (omega (arith, later, same)) in apart) ∙ c.loop-at.invariant.rest i (omega (arith, later));
+      rest = λ i later. at-other cur at i new (let apart : i ≢ at = λ same. absurd (omega (arith, later, same)) in apart)
+          ∙ c.loop-at.invariant.rest i (omega (arith, later));
     }

@@ -18,4 +18,5 @@ pub returns-clause-account : goal.returns-clause-account
 returns-clause-account c =
     let ss : List Sighting = c.args.sightings.now in
     let all : take c.loop-seen.seen-index ss ≡ ss = take_all c.loop-seen.seen-index ss (omega (arith, c.loop-seen-test.false)) in
-    subst (λ (those : List Sighting). (i : ℕ) → account_at c.loop-seen.nodes.items i ≡ option_map (λ (n : Node). account_by i those n.directory) (slice_get c.args.nodes.now.items i)) all c.loop-seen.invariant.account
+    subst (λ (those : List Sighting). (i : ℕ) → account_at c.loop-seen.nodes.items i
+    ≡ option_map (λ (n : Node). account_by i those n.directory) (slice_get c.args.nodes.now.items i)) all c.loop-seen.invariant.account

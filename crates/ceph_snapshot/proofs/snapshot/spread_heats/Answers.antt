@@ -13,7 +13,8 @@ loop-seen-init c =
     let zeros : c.in_ok-spread.spread.items ≡ replicate c.from.result 0 = c.in_ok-spread.ensures.items_if_clones_equal (λ y is. is) in
     record {
       size = search rules;
-      heats = λ rank l. ap (λ (xs : List ℕ). slice_index xs rank) zeros ∙ get_or-replicate c.from.result rank 0 0 (subst (λ (n : ℕ). rank < n) (sym c.from.ensures) l);
+      heats = λ rank l. ap (λ (xs : List ℕ). slice_index xs rank) zeros
+          ∙ get_or-replicate c.from.result rank 0 0 (subst (λ (n : ℕ). rank < n) (sym c.from.ensures) l);
     }
 
 pub loop-seen-preserved : goal.loop-seen-preserved
@@ -29,11 +30,14 @@ loop-seen-preserved c =
     let inside : at < length ss = omega (arith, c.loop-seen-test.true) in
     let rank_is : rank ≡ s.rank = c.from-at.ensures ∙ c.number.ensures.value in
     let small : rank < 64 = subst (λ (n : ℕ). n < 64) (sym c.from-at.ensures) c.number.ensures.small in
-    let had : c.index.result.now ≡ slice_index spread rank = get_or_read spread rank c.index.result.now (subst (λ (n : ℕ). rank < n) (sym c.loop-seen.invariant.size) small) c.index.ensures 0 in
+    let had : c.index.result.now ≡ slice_index spread rank =
+    get_or_read spread rank c.index.result.now (subst (λ (n : ℕ). rank < n) (sym c.loop-seen.invariant.size) small) c.index.ensures 0 in
     let added : sum ≡ min most_heat (slice_index spread rank + cond (is_torn_at nodes s.directory) s.heat 0 / samples) =
     c.saturating_add.ensures
-    ∙ (min_comm _ _ ∙ (ap (λ (k : ℕ). min most_heat (k + c.heat_if_torn.result / samples)) had ∙ ap (λ (h : ℕ). min most_heat (slice_index spread rank + h / samples)) c.heat_if_torn.ensures)) in
+    ∙ (min_comm _ _ ∙ (ap (λ (k : ℕ). min most_heat (k + c.heat_if_torn.result / samples)) had
+    ∙ ap (λ (h : ℕ). min most_heat (slice_index spread rank + h / samples)) c.heat_if_torn.ensures)) in
     record {
       size = length-set spread rank sum ∙ c.loop-seen.invariant.size;
-      heats = spread_more nodes samples ss at s spread rank sum c.loop-seen.invariant.size inside (sym c.seen-item.is) rank_is small added c.loop-seen.invariant.heats;
+      heats = spread_more nodes samples ss at s spread rank sum c.loop-seen.invariant.size inside (sym c.seen-item.is) rank_is small added
+          c.loop-seen.invariant.heats;
     }

@@ -9,6 +9,8 @@ loop-preserved g c =
     let before = g.W.Write.contents c.loop.writer in
     let after = g.W.Write.contents c.write.new.self in
     elim c.match-write.branch [
-      | in-Ok w ↦ one_piece old before after c.args.text.now c.loop.rest.now c.match-write.rest.now w.in-Ok.count c.loop.invariant w.in-Ok.ensures.bytes (ap (λ r. r.now) w.rest-is)
-      | in-Err+else-ne w ↦ no_piece old before after c.args.text.now c.loop.rest.now c.match-write.rest.now c.loop.invariant w.in-Err.ensures.bytes (ap (λ r. r.now) w.rest-is)
+      | in-Ok w ↦ one_piece old before after c.args.text.now c.loop.rest.now c.match-write.rest.now w.in-Ok.count c.loop.invariant
+          w.in-Ok.ensures.bytes (ap (λ r. r.now) w.rest-is)
+      | in-Err+else-ne w ↦ no_piece old before after c.args.text.now c.loop.rest.now c.match-write.rest.now c.loop.invariant
+          w.in-Err.ensures.bytes (ap (λ r. r.now) w.rest-is)
     ]

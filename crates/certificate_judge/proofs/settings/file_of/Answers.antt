@@ -26,6 +26,7 @@ pub returns-in_err-matches-clause-refused : goal.returns-in_err-matches-clause-r
 returns-in_err-matches-clause-refused g c =
     let is : app_of c.in_ok-command.field-0 ≡ mdbal_check = c.in_ok-command.ensures in
     let words = map g.S.AsStr.text c.args.words.now in
-    let kinds = subst (λ (a : App). HasKind (fault_of a words) c.in_err-matches.field-0.0) is (c.in_err-matches.ensures.kinds (ap is_simple_and_free is ∙ is_plain_line)) in
+    let kinds = subst (λ (a : App). HasKind (fault_of a words) c.in_err-matches.field-0.0) is
+    (c.in_err-matches.ensures.kinds (ap is_simple_and_free is ∙ is_plain_line)) in
     let e = err_from_is_err_and c.from_residual-in_err-matches.result c.from_residual-in_err-matches.ensures.1 in
     rw e.1 (explained _ e.0 _ e.2 kinds)

@@ -10,7 +10,8 @@ use Rattle.dirtree.proofs.node.child_in_chain.Goals as goal
 pub loop-at-init : goal.loop-at-init
 loop-at-init c = record {
   here = λ more. c.requires.chained.begins c.chain.result more ∙ ap Some c.chain.ensures.value;
-  below = λ d more is. c.requires.chained.greatest d c.chain.result more (key_placed c.args.hasher (entries_of c.args.nodes.now) d c.args.parent c.args.name.now is ∙ ap Some (sym c.chain.ensures.value));
+  below = λ d more is. c.requires.chained.greatest d c.chain.result more
+      (key_placed c.args.hasher (entries_of c.args.nodes.now) d c.args.parent c.args.name.now is ∙ ap Some (sym c.chain.ensures.value));
 }
 
 pub standing-node-requires : goal.standing-node-requires
@@ -29,23 +30,30 @@ pub loop-at-smaller : goal.loop-at-smaller
 loop-at-smaller c =
     let es : List (Option Entry) = entries_of c.args.nodes.now in
     let some : 0 < c.loop-at.at = grind (arith, common_steps, c.loop-at-test.true) in
-    let next : next_at c.args.nodes.now c.loop-at.at ≡ c.standing-node.result.now.next = node_next c.args.nodes.now c.loop-at.at c.standing-node.result.now c.standing-node.ensures in
+    let next : next_at c.args.nodes.now c.loop-at.at ≡ c.standing-node.result.now.next =
+    node_next c.args.nodes.now c.loop-at.at c.standing-node.result.now c.standing-node.ensures in
     subst (λ (k : ℕ). k < c.loop-at.at) next
-    (next_below (place_at c.args.hasher es) (next_at c.args.nodes.now) (head_at c.args.heads.now) c.loop-at.at (chain_of c.args.hasher c.args.parent c.args.name.now) c.requires.chained some (c.loop-at.invariant.here some))
+    (next_below (place_at c.args.hasher es) (next_at c.args.nodes.now) (head_at c.args.heads.now) c.loop-at.at
+    (chain_of c.args.hasher c.args.parent c.args.name.now) c.requires.chained some (c.loop-at.invariant.here some))
 
 pub loop-at-preserved : goal.loop-at-preserved
 loop-at-preserved c =
     let es : List (Option Entry) = entries_of c.args.nodes.now in
     let some : 0 < c.loop-at.at = grind (arith, common_steps, c.loop-at-test.true) in
-    let next : next_at c.args.nodes.now c.loop-at.at ≡ c.standing-node.result.now.next = node_next c.args.nodes.now c.loop-at.at c.standing-node.result.now c.standing-node.ensures in
+    let next : next_at c.args.nodes.now c.loop-at.at ≡ c.standing-node.result.now.next =
+    node_next c.args.nodes.now c.loop-at.at c.standing-node.result.now c.standing-node.ensures in
     record {
-      here = λ more. ap (place_at c.args.hasher es) (sym next) ∙ (c.requires.chained.follows c.loop-at.at (chain_of c.args.hasher c.args.parent c.args.name.now) some (c.loop-at.invariant.here some) (subst (λ (k : ℕ). 0 < k) (sym next) more)).1;
+      here = λ more. ap (place_at c.args.hasher es) (sym next)
+          ∙ (c.requires.chained.follows c.loop-at.at (chain_of c.args.hasher c.args.parent c.args.name.now) some
+          (c.loop-at.invariant.here some) (subst (λ (k : ℕ). 0 < k) (sym next) more)).1;
       below = λ d more is. subst (λ (k : ℕ). d ≤ k) next
-          (passed c.args.hasher es (next_at c.args.nodes.now) (head_at c.args.heads.now) c.loop-at.at c.args.parent c.standing-node.result.now.parent c.args.name.now (entry_of c.standing-node.result.now).name c.requires.chained
+          (passed c.args.hasher es (next_at c.args.nodes.now) (head_at c.args.heads.now) c.loop-at.at c.args.parent
+          c.standing-node.result.now.parent c.args.name.now (entry_of c.standing-node.result.now).name c.requires.chained
           some (c.loop-at.invariant.here some) (node_key c.args.nodes.now c.loop-at.at c.standing-node.result.now c.standing-node.ensures)
           (λ up same. false≢true (sym c.if-is_named.false ∙ c.is_named.ensures.1 (up, same)))
           c.loop-at.invariant.below d more is);
     }
 
 pub returns : goal.returns
-returns c = sym (no_child (entries_of c.args.nodes.now) c.args.parent c.args.name.now (λ d more is. subst (λ (k : ℕ). d ≤ k) c.loop-at-test.false (c.loop-at.invariant.below d more is)))
+returns c = sym (no_child (entries_of c.args.nodes.now) c.args.parent c.args.name.now
+    (λ d more is. subst (λ (k : ℕ). d ≤ k) c.loop-at-test.false (c.loop-at.invariant.below d more is)))

@@ -7,7 +7,9 @@ use Rattle.dirtree.proofs.node.place_in_chain.Goals as goal
 pub loop-at-init : goal.loop-at-init
 loop-at-init c =
     let es : List (Option Entry) = entries_of c.args.nodes.now in
-    let is : place_at c.args.hasher es c.args.dir ≡ Some c.chain-chain.result = node_placed c.args.hasher c.args.nodes.now c.args.dir c.chain-chain.result c.standing-node.result.now c.as_str.result.now c.standing-node.ensures c.as_str.ensures c.chain-chain.ensures.value in
+    let is : place_at c.args.hasher es c.args.dir ≡ Some c.chain-chain.result =
+    node_placed c.args.hasher c.args.nodes.now c.args.dir c.chain-chain.result c.standing-node.result.now c.as_str.result.now
+    c.standing-node.ensures c.as_str.ensures c.chain-chain.ensures.value in
     let top : c.args.dir ≤ head_at c.args.heads.now c.chain-chain.result = c.requires.chained.greatest c.args.dir c.chain-chain.result c.requires.some is in
     record {
       here = c.requires.chained.begins c.chain-chain.result (omega (arith, top, c.requires.some));
@@ -23,16 +25,22 @@ pub loop-at-smaller : goal.loop-at-smaller
 loop-at-smaller c =
     let some : 0 < c.loop-at.at = omega (arith, c.loop-at.invariant.reach, c.requires.some) in
     subst (λ (k : ℕ). k < c.loop-at.at) (node_next c.args.nodes.now c.loop-at.at c.standing.result.now c.standing.ensures)
-    (next_below (place_at c.args.hasher (entries_of c.args.nodes.now)) (next_at c.args.nodes.now) (head_at c.args.heads.now) c.loop-at.at c.chain-chain.result c.requires.chained some c.loop-at.invariant.here)
+    (next_below (place_at c.args.hasher (entries_of c.args.nodes.now)) (next_at c.args.nodes.now) (head_at c.args.heads.now) c.loop-at.at
+    c.chain-chain.result c.requires.chained some c.loop-at.invariant.here)
 
 pub loop-at-preserved : goal.loop-at-preserved
 loop-at-preserved c =
     let es : List (Option Entry) = entries_of c.args.nodes.now in
-    let is : place_at c.args.hasher es c.args.dir ≡ Some c.chain-chain.result = node_placed c.args.hasher c.args.nodes.now c.args.dir c.chain-chain.result c.standing-node.result.now c.as_str.result.now c.standing-node.ensures c.as_str.ensures c.chain-chain.ensures.value in
+    let is : place_at c.args.hasher es c.args.dir ≡ Some c.chain-chain.result =
+    node_placed c.args.hasher c.args.nodes.now c.args.dir c.chain-chain.result c.standing-node.result.now c.as_str.result.now
+    c.standing-node.ensures c.as_str.ensures c.chain-chain.ensures.value in
     let above : c.args.dir < c.loop-at.at = omega (arith, c.loop-at.invariant.reach, c.loop-at-test.true) in
-    let next : next_at c.args.nodes.now c.loop-at.at ≡ c.standing.result.now.next = node_next c.args.nodes.now c.loop-at.at c.standing.result.now c.standing.ensures in
-    let step : IsNext (place_at c.args.hasher es) c.args.dir c.standing.result.now.next c.chain-chain.result = subst (λ (k : ℕ). IsNext (place_at c.args.hasher es) c.args.dir k c.chain-chain.result) next
-    (next_is (place_at c.args.hasher es) (next_at c.args.nodes.now) (head_at c.args.heads.now) c.args.dir c.loop-at.at c.chain-chain.result c.requires.chained c.requires.some above is c.loop-at.invariant.here) in
+    let next : next_at c.args.nodes.now c.loop-at.at ≡ c.standing.result.now.next =
+    node_next c.args.nodes.now c.loop-at.at c.standing.result.now c.standing.ensures in
+    let step : IsNext (place_at c.args.hasher es) c.args.dir c.standing.result.now.next c.chain-chain.result =
+    subst (λ (k : ℕ). IsNext (place_at c.args.hasher es) c.args.dir k c.chain-chain.result) next
+    (next_is (place_at c.args.hasher es) (next_at c.args.nodes.now) (head_at c.args.heads.now) c.args.dir c.loop-at.at c.chain-chain.result
+    c.requires.chained c.requires.some above is c.loop-at.invariant.here) in
     record {
       here = step.placed;
       reach = step.reach;

@@ -22,12 +22,14 @@ less m n h = grind arith
 
 pub returns-clause-entries : goal.returns-clause-entries
 returns-clause-entries g c =
-    map-set_same items_of c.args.lists.now.items c.args.index c.reserve.new.self c.index_mut.result.now (c.reserve.ensures.items ∙ ap items_of c.index_mut.ensures.value)
+    map-set_same items_of c.args.lists.now.items c.args.index c.reserve.new.self c.index_mut.result.now
+    (c.reserve.ensures.items ∙ ap items_of c.index_mut.ensures.value)
 
 pub returns-clause-room : goal.returns-clause-room
 returns-clause-room g c =
     let near : c.args.index < length c.args.lists.now.items = c.requires.near in
-    let e : slice_get (set c.args.lists.now.items c.args.index c.reserve.new.self) c.args.index ≡ Some c.reserve.new.self = set_here c.args.lists.now.items c.args.index c.reserve.new.self near in
+    let e : slice_get (set c.args.lists.now.items c.args.index c.reserve.new.self) c.args.index
+    ≡ Some c.reserve.new.self = set_here c.args.lists.now.items c.args.index c.reserve.new.self near in
     on_ok c.reserve.result (λ h. rw e (less (vec_len c.reserve.new.self) (vec_capacity c.reserve.new.self) (omega (arith, h)))) c.reserve.ensures.ok
 
 pub returns-clause-ready : goal.returns-clause-ready
@@ -43,4 +45,5 @@ spare_kept old new old_room new_room e h k = grind arith
 
 pub returns-clause-spare : goal.returns-clause-spare
 returns-clause-spare g c = set_places c.args.lists.now.items c.args.index c.reserve.new.self c.index_mut.result.now c.requires.near c.index_mut.ensures.value
-    (spare_kept (vec_len c.index_mut.result.now) (vec_len c.reserve.new.self) (vec_capacity c.index_mut.result.now) (vec_capacity c.reserve.new.self) (omega arith) (omega arith))
+    (spare_kept (vec_len c.index_mut.result.now) (vec_len c.reserve.new.self) (vec_capacity c.index_mut.result.now)
+    (vec_capacity c.reserve.new.self) (omega arith) (omega arith))

@@ -16,5 +16,6 @@ returns g c =
     let near : c.number.result < length c.args.lists.now.items = rw c.number.ensures.value c.requires.near in
     record {
       entered = rw (← c.number.ensures.value)
-          (entered c.args.lists.now.items c.number.result c.push_reserved.new.self c.index_mut.result.now c.args.entry near c.index_mut.ensures.value c.push_reserved.ensures.items);
+          (entered c.args.lists.now.items c.number.result c.push_reserved.new.self c.index_mut.result.now c.args.entry near
+          c.index_mut.ensures.value c.push_reserved.ensures.items);
     }

@@ -16,5 +16,6 @@ loop-share-preserved g c =
       search rules,
       search rules,
       all_left IsClean c.pop.new.self.items x all,
-      gathered_more c.args.authority.now.me.0.parts c.loop-share.authority.me.0 u _ _ _ _ x order inv.4 (all_last IsClean c.pop.new.self.items x all) c.into_token.ensures.share c.take_back.ensures.backed now,
+      gathered_more c.args.authority.now.me.0.parts c.loop-share.authority.me.0 u _ _ _ _ x order inv.4
+          (all_last IsClean c.pop.new.self.items x all) c.into_token.ensures.share c.take_back.ensures.backed now,
     )

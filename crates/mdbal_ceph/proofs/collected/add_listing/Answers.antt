@@ -35,9 +35,11 @@ returns-in_default-clause-added g c = λ seen facts was.
 pub returns-in_err-add_numbers-clause-failed : goal.returns-in_err-add_numbers-clause-failed
 returns-in_err-add_numbers-clause-failed g c =
     let e = err_from_is_err_and c.from_residual.result c.from_residual.ensures.1 in
-    rw (e.1, e.2) (growth_in (g.F.Folder.reads c.args.source.now.files.now) g.D.DumpReader.says g.D.DumpReader.refuses c.args.source.now.folder.now _ c.in_err-add_numbers.ensures.failed)
+    rw (e.1, e.2) (growth_in (g.F.Folder.reads c.args.source.now.files.now) g.D.DumpReader.says g.D.DumpReader.refuses
+    c.args.source.now.folder.now _ c.in_err-add_numbers.ensures.failed)
 
 pub returns-in_err-add_listing-clause-failed : goal.returns-in_err-add_listing-clause-failed
 returns-in_err-add_listing-clause-failed g c =
     let e = err_from_is_err_and c.from_residual-in_err-add_listing.result c.from_residual-in_err-add_listing.ensures.1 in
-    rw (e.1, e.2) (growth_in (g.F.Folder.reads c.args.source.now.files.now) g.D.DumpReader.says g.D.DumpReader.refuses c.args.source.now.folder.now _ (growth_is _))
+    rw (e.1, e.2) (growth_in (g.F.Folder.reads c.args.source.now.files.now) g.D.DumpReader.says g.D.DumpReader.refuses
+    c.args.source.now.folder.now _ (growth_is _))

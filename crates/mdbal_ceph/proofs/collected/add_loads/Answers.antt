@@ -11,7 +11,8 @@ returns-clause-added g c = (
   c.in_ok-loads.loads.items,
   c.in_ok-loads.ensures.loads,
   record {
-    seen_more = subst (λ (those : List FragmentHeat). c.add_loads.new.self.tree.seen ≡ c.args.gathering.now.tree.seen ++ seen_in c.args.rank those) c.as_slice.ensures.value
+    seen_more = subst (λ (those : List FragmentHeat). c.add_loads.new.self.tree.seen ≡ c.args.gathering.now.tree.seen
+        ++ seen_in c.args.rank those) c.as_slice.ensures.value
         c.in_ok-add_loads.ensures.seen;
     told = λ before is. subst (HasTold c.add_loads.new.self) (sym (append-nil before)) (c.in_ok-add_loads.ensures.told before is);
     listed = c.add_loads.ensures.listed;
@@ -27,4 +28,5 @@ returns-in_err-loads-clause-failed g c = λ rank sample.
 pub returns-in_err-add_loads-clause-failed : goal.returns-in_err-add_loads-clause-failed
 returns-in_err-add_loads-clause-failed g c = λ rank sample.
     let e = err_from_is_err_and c.from_residual-in_err-add_loads.result c.from_residual-in_err-add_loads.ensures.1 in
-    rw (e.1, e.2) (growth_in (g.F.Folder.reads c.args.source.now.files.now) g.D.DumpReader.says g.D.DumpReader.refuses c.args.source.now.folder.now _ (growth_is _))
+    rw (e.1, e.2) (growth_in (g.F.Folder.reads c.args.source.now.files.now) g.D.DumpReader.says g.D.DumpReader.refuses
+    c.args.source.now.folder.now _ (growth_is _))

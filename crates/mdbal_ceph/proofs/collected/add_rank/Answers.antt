@@ -23,9 +23,11 @@ loop-sample-preserved g c =
     let samples : List (List FragmentHeat) = was.0 in
     let loads : List FragmentHeat = here.0 in (
       samples ++ loads ∷ [],
-      samples_more (g.F.Folder.reads c.args.source.now.files.now) g.D.DumpReader.says c.args.source.now.mounted c.args.source.now.folder.now c.args.rank c.loop-sample.sample samples loads was.1 here.1,
+      samples_more (g.F.Folder.reads c.args.source.now.files.now) g.D.DumpReader.says c.args.source.now.mounted c.args.source.now.folder.now
+          c.args.rank c.loop-sample.sample samples loads was.1 here.1,
       subst (λ (s : List PathHeat). Adds c.add_subtrees.new.gathering c.add_loads.new.gathering s []) (sym (piece_more (seen_in c.args.rank) samples loads))
-          (adds_both c.add_subtrees.new.gathering c.loop-sample.gathering c.add_loads.new.gathering (flat_map (seen_in c.args.rank) samples) (seen_in c.args.rank loads) [] [] was.2 here.2),
+          (adds_both c.add_subtrees.new.gathering c.loop-sample.gathering c.add_loads.new.gathering (flat_map (seen_in c.args.rank) samples)
+          (seen_in c.args.rank loads) [] [] was.2 here.2),
     )
 
 pub returns-clause-added : goal.returns-clause-added
@@ -38,10 +40,12 @@ returns-clause-added g c =
       refl,
       record {
         roots = sub.1;
-        samples = subst (λ (n : ℕ). AreSamples (g.F.Folder.reads c.args.source.now.files.now) g.D.DumpReader.says c.args.source.now.mounted c.args.source.now.folder.now c.args.rank n samples) all was.1;
+        samples = subst (λ (n : ℕ). AreSamples (g.F.Folder.reads c.args.source.now.files.now) g.D.DumpReader.says c.args.source.now.mounted
+            c.args.source.now.folder.now c.args.rank n samples) all was.1;
       },
       subst (Adds c.args.gathering.now c.loop-sample.gathering (flat_map (seen_in c.args.rank) samples)) (append-nil (roots_in c.args.rank sub.0))
-          (adds_both c.args.gathering.now c.add_subtrees.new.gathering c.loop-sample.gathering [] (flat_map (seen_in c.args.rank) samples) (roots_in c.args.rank sub.0) [] sub.2 was.2),
+          (adds_both c.args.gathering.now c.add_subtrees.new.gathering c.loop-sample.gathering [] (flat_map (seen_in c.args.rank) samples)
+          (roots_in c.args.rank sub.0) [] sub.2 was.2),
     )
 
 pub returns-in_err-add_subtrees-clause-failed : goal.returns-in_err-add_subtrees-clause-failed

@@ -7,5 +7,6 @@ use Rattle.mdbal_ceph.proofs.collected.add_ranks.Given as goal
 abbrev pub invariant-loop-number : goal.invariant-loop-number
 invariant-loop-number g l =
     (dumps : List RankDump)
-    × AreRankDumps (g.F.Folder.reads l.source.files.now) g.D.DumpReader.says l.source.mounted l.source.folder.now l.source.samples (ranks_below l.ranks l.number) dumps
+    × AreRankDumps (g.F.Folder.reads l.source.files.now) g.D.DumpReader.says l.source.mounted l.source.folder.now l.source.samples
+    (ranks_below l.ranks l.number) dumps
     × Adds l.initial.gathering l.gathering (all_seen dumps) (root_facts dumps)

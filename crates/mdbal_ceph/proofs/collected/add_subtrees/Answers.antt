@@ -30,5 +30,7 @@ returns-clause-failed g c = λ read rank.
     rw c.claim_error.ensures
     (claim_in (g.F.Folder.reads c.args.source.now.files.now) g.D.DumpReader.says g.D.DumpReader.refuses c.args.source.now.folder.now c.in-Err.error
     (λ path one two is.
-    twice_claimed (g.F.Folder.reads c.args.source.now.files.now) g.D.DumpReader.says g.D.DumpReader.refuses c.args.source.now.folder.now c.args.rank c.args.source.now.mounted c.in_ok-roots.roots.items c.as_slice.result.now read.facts path one two
-    read.read.numbers_are read.listed rank c.in_ok-roots.ensures.roots c.as_slice.ensures.value (c.in-Err.ensures.twice read.facts read.told path one two (ap Err is))))
+    twice_claimed (g.F.Folder.reads c.args.source.now.files.now) g.D.DumpReader.says g.D.DumpReader.refuses c.args.source.now.folder.now
+    c.args.rank c.args.source.now.mounted c.in_ok-roots.roots.items c.as_slice.result.now read.facts path one two
+    read.read.numbers_are read.listed rank c.in_ok-roots.ensures.roots c.as_slice.ensures.value
+    (c.in-Err.ensures.twice read.facts read.told path one two (ap Err is))))

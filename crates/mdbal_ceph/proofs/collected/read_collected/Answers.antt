@@ -11,7 +11,8 @@ use Rattle.mdbal_ceph.proofs.collected.read_collected.Goals as goal
 pub returns-clause-collected : goal.returns-clause-collected
 returns-clause-collected g c =
     let ranks = rw (c.in_ok-source.ensures.files, c.in_ok-source.ensures.folder) at c.in_ok-gathering.ensures.gathered in
-    let listing = rw (c.in_ok-source.ensures.files, c.in_ok-source.ensures.folder) at (c.in_ok-add_listing.ensures.added (all_seen ranks.0) (root_facts ranks.0) ranks.2) in
+    let listing = rw (c.in_ok-source.ensures.files, c.in_ok-source.ensures.folder) at
+    (c.in_ok-add_listing.ensures.added (all_seen ranks.0) (root_facts ranks.0) ranks.2) in
     let found = c.in-Ok.ensures in
     let dumps : Dumps = record {
       cluster = c.in_ok-cluster.cluster;
@@ -38,10 +39,13 @@ returns-clause-collected g c =
       own_of = c.in_ok-own.ensures.own;
       is = found.snapshot;
       directories =
-          subst (λ (own : List OwnPin). IsSnapshotOf (all_seen ranks.0) (all_facts dumps) (is_some listing.0) (is_some c.in_ok-source.source.mounted) c.in_ok-source.source.samples own c.in_ok-cluster.cluster.ranks c.in-Ok.snapshot)
+          subst (λ (own : List OwnPin). IsSnapshotOf (all_seen ranks.0) (all_facts dumps) (is_some listing.0)
+          (is_some c.in_ok-source.source.mounted) c.in_ok-source.source.samples own c.in_ok-cluster.cluster.ranks c.in-Ok.snapshot)
           c.listed.ensures
-          (snapshot_of c.add_listing.new.gathering c.in-Ok.snapshot (all_seen ranks.0) (all_facts dumps) (is_some listing.0) (is_some c.in_ok-source.source.mounted) c.in_ok-source.source.samples c.listed.result.now
-          c.in_ok-cluster.cluster.ranks listing.2 found.authority found.seen found.numbers (found.here (search rules)) found.owner found.there found.spread found.told);
+          (snapshot_of c.add_listing.new.gathering c.in-Ok.snapshot (all_seen ranks.0) (all_facts dumps) (is_some listing.0)
+          (is_some c.in_ok-source.source.mounted) c.in_ok-source.source.samples c.listed.result.now
+          c.in_ok-cluster.cluster.ranks listing.2 found.authority found.seen found.numbers (found.here (search rules)) found.owner
+          found.there found.spread found.told);
     }
 
 pub returns-clause-ours : goal.returns-clause-ours
@@ -73,7 +77,8 @@ pub returns-in_err-gathering-clause-failed : goal.returns-in_err-gathering-claus
 returns-in_err-gathering-clause-failed g c =
     let e = err_from_is_err_and c.from_residual-in_err-gathering.result c.from_residual-in_err-gathering.ensures.1 in
     rw (e.1, e.2) (inl ((rw (c.in_ok-source.ensures.files, c.in_ok-source.ensures.folder) at c.in_err-gathering.ensures.failed)
-    (record { numbers_are = c.in_ok-source.ensures.numbers; count_is = c.in_ok-source.ensures.count }) (λ rank has. (c.in_ok-cluster.cluster, c.in_ok-cluster.ensures.cluster, has))))
+    (record { numbers_are = c.in_ok-source.ensures.numbers; count_is = c.in_ok-source.ensures.count })
+    (λ rank has. (c.in_ok-cluster.cluster, c.in_ok-cluster.ensures.cluster, has))))
 
 pub returns-in_err-add_listing-clause-failed : goal.returns-in_err-add_listing-clause-failed
 returns-in_err-add_listing-clause-failed g c =
@@ -90,7 +95,8 @@ returns-in-Err-clause-failed g c =
     let reads = g.F.Folder.reads c.args.inputs.now.files.now in
     let folder = c.args.folder.now in
     let ranks = rw (c.in_ok-source.ensures.files, c.in_ok-source.ensures.folder) at c.in_ok-gathering.ensures.gathered in
-    let listing = rw (c.in_ok-source.ensures.files, c.in_ok-source.ensures.folder) at (c.in_ok-add_listing.ensures.added (all_seen ranks.0) (root_facts ranks.0) ranks.2) in
+    let listing = rw (c.in_ok-source.ensures.files, c.in_ok-source.ensures.folder) at
+    (c.in_ok-add_listing.ensures.added (all_seen ranks.0) (root_facts ranks.0) ranks.2) in
     let dumps : Dumps = record {
       cluster = c.in_ok-cluster.cluster;
       count = c.in_ok-source.source.samples;

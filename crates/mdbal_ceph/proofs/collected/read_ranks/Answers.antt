@@ -24,7 +24,8 @@ returns-in-Ok-clause-ranks g c =
         ranks = ranks.1;
       };
       is = found.snapshot;
-      directories = snapshot_of c.in_ok-gathering.gathering c.in-Ok.snapshot (all_seen ranks.0) (root_facts ranks.0) false false c.in_ok-source.source.samples [] c.in_ok-ranks.field-0.ranks ranks.2
+      directories = snapshot_of c.in_ok-gathering.gathering c.in-Ok.snapshot (all_seen ranks.0) (root_facts ranks.0) false false
+          c.in_ok-source.source.samples [] c.in_ok-ranks.field-0.ranks ranks.2
           found.authority found.seen found.numbers (found.here (search rules)) found.owner found.there found.spread found.told;
     }
 
@@ -33,7 +34,8 @@ returns-in_err-gathering-clause-failed g c =
     let e = err_from_is_err_and c.from_residual-in_err-gathering.result c.from_residual-in_err-gathering.ensures.1 in
     let failed = rw (c.in_ok-source.ensures.files, c.in_ok-source.ensures.folder) at c.in_err-gathering.ensures.failed in
     rw (e.1, e.2)
-    (failed (record { numbers_are = c.in_ok-source.ensures.numbers; count_is = c.in_ok-source.ensures.count }) (λ rank has. (c.in_ok-ranks.field-0, c.in_ok-ranks.ensures.cluster, has)))
+    (failed (record { numbers_are = c.in_ok-source.ensures.numbers; count_is = c.in_ok-source.ensures.count })
+    (λ rank has. (c.in_ok-ranks.field-0, c.in_ok-ranks.ensures.cluster, has)))
 
 pub returns-clause-failed : goal.returns-clause-failed
 returns-clause-failed g c =

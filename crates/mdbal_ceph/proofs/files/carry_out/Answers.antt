@@ -81,5 +81,9 @@ returns-in_err-output-clause-failed g c =
         left = c.in_ok-leave.ensures.leave;
         earlier_are = rw c.deref.ensures.value at c.in_ok-earlier.ensures.hours;
       };
-      why_not = inr (c.in_ok-outcome.outcome, rw (c.deref-2.ensures.value, c.deref-3.ensures.value) at c.in_ok-outcome.ensures.outcome, c.in_err-output.ensures.failed);
+      why_not = inr (
+        c.in_ok-outcome.outcome,
+        rw (c.deref-2.ensures.value, c.deref-3.ensures.value) at c.in_ok-outcome.ensures.outcome,
+        c.in_err-output.ensures.failed,
+      );
     }))

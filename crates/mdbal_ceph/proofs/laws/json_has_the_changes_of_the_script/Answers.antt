@@ -6,8 +6,10 @@ use Rattle.mdbal_ceph.specs.declared.writing.PinFiles.{PinFiles}
 use Rattle.mdbal_ceph.specs.declared.writing.PlanOutput.{PlanOutput}
 use Rattle.mdbal_ceph.proofs.laws.json_has_the_changes_of_the_script.Goals as goal
 
-same_changes : (settings : PlanSettings) (outcome : Outcome) (output : PlanOutput) → IsWritten settings outcome output → settings.is_json ≡ true → (files : Option PinFiles)
-    → IfSome files (ArePinFiles settings outcome (proposed_changes outcome output.is_proposed)) → IfSome files (HaveSameChanges settings outcome output.text.items output.is_proposed)
+same_changes : (settings : PlanSettings) (outcome : Outcome) (output : PlanOutput) → IsWritten settings outcome output
+    → settings.is_json ≡ true → (files : Option PinFiles)
+    → IfSome files (ArePinFiles settings outcome (proposed_changes outcome output.is_proposed))
+    → IfSome files (HaveSameChanges settings outcome output.text.items output.is_proposed)
 same_changes settings outcome output is json None are = tt
 same_changes settings outcome output is json (Some files) are = record {
   changes = proposed_changes outcome output.is_proposed;

@@ -24,7 +24,8 @@ pub folded-requires : goal.folded-requires
 folded-requires c = c.in_ok-units.ensures.sizes
 
 -- as many hours at the directories that are planned one by one
-unit_count : (subvolumes : Bool) (collected units : List Directory) (hours left : List (Vec ℕ Global)) → AreUnitHours subvolumes collected units hours left → length left ≡ length hours
+unit_count : (subvolumes : Bool) (collected units : List Directory) (hours left : List (Vec ℕ Global))
+    → AreUnitHours subvolumes collected units hours left → length left ≡ length hours
 unit_count false collected units hours left are = ap length are
 unit_count true collected units hours left are = same_length (λ (hour one : Vec ℕ Global). AreHeatsLeft are.0 are.1 hour.items one.items) hours left are.3
 
@@ -37,14 +38,16 @@ past_hours-requires c =
     ap length c.deref-7.ensures.value
     ∙ (same_length (λ (hour one : Vec ℕ Global). AreHeatsLeft folded.0 folded.1 hour.items one.items) at_units at_directories folded.3
     ∙ (unit_count _ _ _ hours at_units c.in_ok-units.ensures.hours
-    ∙ same_length (λ (hour : EarlierHour) (heats : Vec ℕ Global). IsSeenAt c.deref.result.now hour.kept heats) c.args.earlier.now hours c.in_ok-hours.ensures.each))
+    ∙ same_length (λ (hour : EarlierHour) (heats : Vec ℕ Global). IsSeenAt c.deref.result.now hour.kept heats) c.args.earlier.now hours
+    c.in_ok-hours.ensures.each))
 
 pub decided-requires-clause-heats : goal.decided-requires-clause-heats
 decided-requires-clause-heats c =
     let past : ArePastHours c.args.earlier.now c.folded.new.hours.items c.in_ok-past.past.items =
     record { heats_are = rw c.deref-7.ensures.value at c.in_ok-past.ensures.heats; spread = c.in_ok-past.ensures.spread } in
     rw (c.deref-9.ensures.value, c.deref-11.ensures.value)
-    (past_sizes (length c.in_ok-directories.directories.items) c.args.earlier.now c.folded.new.hours.items c.in_ok-past.past.items past c.in_ok-directories.ensures.sizes)
+    (past_sizes (length c.in_ok-directories.directories.items) c.args.earlier.now c.folded.new.hours.items c.in_ok-past.past.items past
+    c.in_ok-directories.ensures.sizes)
 
 pub decided-requires-clause-spreads : goal.decided-requires-clause-spreads
 decided-requires-clause-spreads c =
@@ -58,7 +61,8 @@ heats_bound-bound-requires c =
     let plan = planned.plan in
     subst (ArePlanRanks c.in_ok-ranks.ranks) (sym c.deref-13.ensures.value) (record {
       zero = subst (λ ranks. has_rank ranks 0 ≡ true) c.asked_by-asked.ensures.ranks plan.found_is.proposal.chosen.plannable.zero;
-      held = present_pinned _ _ planned.rows _ _ planned.given _ _ _ _ plan.chosen plan.made plan.planned plan.weights planned.given_are plan.chosen_are plan.planned_are plan.found_is.countable;
+      held = present_pinned _ _ planned.rows _ _ planned.given _ _ _ _ plan.chosen plan.made plan.planned plan.weights planned.given_are
+          plan.chosen_are plan.planned_are plan.found_is.countable;
     })
 
 -- the bound of what was collected
@@ -72,7 +76,8 @@ bound_of_all collected heats those pinned held ranks bound are heats_are pinned_
   lower = subst (λ (xs : List ℕ). IsBoundOf ranks pinned (length xs) (slice_index xs) bound) heats_are
       (subst (λ (xs : List ℕ). IsBoundOf ranks xs (length those) (slice_index those) bound) pinned_are lower);
   great = subst (λ (xs : List ℕ). sum_below (length xs) (slice_index xs) ≤ 2 ^ 62 → IsAsGreat ranks pinned (length xs) (slice_index xs) bound) heats_are
-      (subst (λ (xs : List ℕ). sum_below (length those) (slice_index those) ≤ 2 ^ 62 → IsAsGreat ranks xs (length those) (slice_index those) bound) pinned_are great);
+      (subst (λ (xs : List ℕ). sum_below (length those) (slice_index those) ≤ 2 ^ 62
+      → IsAsGreat ranks xs (length those) (slice_index those) bound) pinned_are great);
 }
 
 pub returns-clause-outcome : goal.returns-clause-outcome
@@ -92,7 +97,8 @@ returns-clause-outcome c =
       same = c.in_ok-directories.ensures.same;
       folded = c.in_ok-directories.ensures.folded;
       count = omega (arith, c.in_ok-directories.ensures.count, c.in_ok-units.ensures.count);
-      unpinnable = kept_through collected c.in_ok-units.units.items directories c.requires.snapshot.kept c.in_ok-units.ensures.kept c.in_ok-directories.ensures.kept;
+      unpinnable = kept_through collected c.in_ok-units.units.items directories c.requires.snapshot.kept c.in_ok-units.ensures.kept
+          c.in_ok-directories.ensures.kept;
       past = past;
       past_are = record {
         seen = c.in_ok-hours.hours.items;
@@ -114,7 +120,8 @@ returns-clause-outcome c =
       decided =
           subst (λ (others : List PastHour). IsDecision directories spread leave others asked decision) c.deref-11.ensures.value
           (subst (λ (heats : List ℕ). IsDecision directories heats leave c.deref-11.result.now asked decision) c.deref-10.ensures.value
-          (subst (λ (others : List Directory). IsDecision others c.deref-10.result.now leave c.deref-11.result.now asked decision) c.deref-9.ensures.value c.in_ok-decision.ensures.decision));
+          (subst (λ (others : List Directory). IsDecision others c.deref-10.result.now leave c.deref-11.result.now asked decision)
+          c.deref-9.ensures.value c.in_ok-decision.ensures.decision));
       hottest = record {
         heats = heats;
         are = subst (λ (those : List Directory). AreFreeHeats those heats) c.deref-2.ensures.value c.in_ok-heats.ensures;
@@ -126,7 +133,8 @@ returns-clause-outcome c =
         is = rw (c.deref-5.ensures.value, c.deref-6.ensures.value) at c.in_ok-advice.ensures;
       };
       bound = bound_of_all collected heats c.deref-12.result.now decision.pinned.items c.deref-13.result.now c.in_ok-ranks.ranks c.heats_bound-bound.result
-          (subst (λ (those : List Directory). AreFreeHeats those heats) c.deref-2.ensures.value c.in_ok-heats.ensures) c.deref-12.ensures.value c.deref-13.ensures.value
+          (subst (λ (those : List Directory). AreFreeHeats those heats) c.deref-2.ensures.value c.in_ok-heats.ensures)
+          c.deref-12.ensures.value c.deref-13.ensures.value
           c.heats_bound-bound.ensures.lower c.heats_bound-bound.ensures.three;
     }
 

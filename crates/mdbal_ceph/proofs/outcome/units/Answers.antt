@@ -32,4 +32,5 @@ returns-clause-units c =
 pub returns-clause-sizes : goal.returns-clause-sizes
 returns-clause-sizes c =
     IfOk-weaker c.fold_to_units.result _ _
-    (λ found folded. folded_sizes c.args.directories.items found.0.items c.args.hours.now.items c.fold_to_units.new.hours.items folded c.requires) c.fold_to_units.ensures.hours
+    (λ found folded. folded_sizes c.args.directories.items found.0.items c.args.hours.now.items c.fold_to_units.new.hours.items folded
+    c.requires) c.fold_to_units.ensures.hours

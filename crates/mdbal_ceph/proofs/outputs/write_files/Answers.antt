@@ -12,7 +12,8 @@ returns-clause-whole g c =
     let script : List FileWrite = text_files (option_map (λ name. name.now) c.args.settings.now.script) c.args.output.now.script in
     let pins : List FileWrite = pins_files (option_map (λ name. name.now) c.args.settings.now.pins) c.args.output.now.pins in
     writes_both (written c.args.outputs.now) (written c.write_text.new.outputs) (written c.write_pins.new.outputs) (svg ++ script) pins
-    (writes_both (written c.args.outputs.now) (written c.write_texts.new.outputs) (written c.write_text.new.outputs) svg script c.in_ok-write_texts.ensures.whole c.in_ok-write_text.ensures.whole)
+    (writes_both (written c.args.outputs.now) (written c.write_texts.new.outputs) (written c.write_text.new.outputs) svg script
+    c.in_ok-write_texts.ensures.whole c.in_ok-write_text.ensures.whole)
     c.in_ok-write_pins.ensures.whole
 
 pub returns-in_err-write_texts-clause-cut : goal.returns-in_err-write_texts-clause-cut
@@ -33,7 +34,8 @@ returns-in_err-write_text-clause-cut g c =
     let pins : List FileWrite = pins_files (option_map (λ name. name.now) c.args.settings.now.pins) c.args.output.now.pins in
     let e = err_from_is_err_and c.from_residual-in_err-write_text.result c.from_residual-in_err-write_text.ensures.1 in
     rw (e.1, e.2) (cut_before (written c.args.outputs.now) (written c.write_text.new.outputs) (svg ++ script) pins _
-    (cut_after (written c.args.outputs.now) (written c.write_texts.new.outputs) (written c.write_text.new.outputs) svg script _ c.in_ok-write_texts.ensures.whole c.in_err-write_text.ensures.cut))
+    (cut_after (written c.args.outputs.now) (written c.write_texts.new.outputs) (written c.write_text.new.outputs) svg script _
+    c.in_ok-write_texts.ensures.whole c.in_err-write_text.ensures.cut))
 
 pub returns-in_err-write_pins-clause-cut : goal.returns-in_err-write_pins-clause-cut
 returns-in_err-write_pins-clause-cut g c =
@@ -43,5 +45,6 @@ returns-in_err-write_pins-clause-cut g c =
     let pins : List FileWrite = pins_files (option_map (λ name. name.now) c.args.settings.now.pins) c.args.output.now.pins in
     let e = err_from_is_err_and c.from_residual-in_err-write_pins.result c.from_residual-in_err-write_pins.ensures.1 in
     rw (e.1, e.2) (cut_after (written c.args.outputs.now) (written c.write_text.new.outputs) (written c.write_pins.new.outputs) (svg ++ script) pins _
-    (writes_both (written c.args.outputs.now) (written c.write_texts.new.outputs) (written c.write_text.new.outputs) svg script c.in_ok-write_texts.ensures.whole c.in_ok-write_text.ensures.whole)
+    (writes_both (written c.args.outputs.now) (written c.write_texts.new.outputs) (written c.write_text.new.outputs) svg script
+    c.in_ok-write_texts.ensures.whole c.in_ok-write_text.ensures.whole)
     c.in_err-write_pins.ensures.cut)

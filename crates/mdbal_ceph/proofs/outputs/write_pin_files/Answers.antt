@@ -63,7 +63,8 @@ returns-in_err-write_file-3-clause-cut g c =
     let c2 : Option (List FileWrite) = written c.write_file-2.new.outputs in
     let d : Option (List FileWrite) = written c.write_file-3.new.outputs in
     let first : Writes a b (own ∷ []) = rw (c.as_str.ensures.value, c.in_ok-own.ensures, c.as_slice.ensures.value) at c.in_ok-write_file.ensures.whole in
-    let second : Writes b c2 (plan ∷ []) = rw (c.as_str-2.ensures.value, c.in_ok-plan.ensures, c.as_slice-2.ensures.value) at c.in_ok-write_file-2.ensures.whole in
+    let second : Writes b c2 (plan ∷ []) = rw (c.as_str-2.ensures.value, c.in_ok-plan.ensures, c.as_slice-2.ensures.value) at
+    c.in_ok-write_file-2.ensures.whole in
     let cut = rw (c.as_str-3.ensures.value, c.in_ok-back.ensures, c.as_slice-3.ensures.value) at c.in_err-write_file-3.ensures.cut in
     let e = err_from_is_err_and c.from_residual-in_err-write_file-3.result c.from_residual-in_err-write_file-3.ensures.1 in
     rw (e.1, e.2) (cut_third a b c2 d d own plan back script _ first second (script ∷ []) cut)
@@ -82,8 +83,10 @@ returns-in_err-write_file-4-clause-cut g c =
     let d : Option (List FileWrite) = written c.write_file-3.new.outputs in
     let e : Option (List FileWrite) = written c.write_file-4.new.outputs in
     let first : Writes a b (own ∷ []) = rw (c.as_str.ensures.value, c.in_ok-own.ensures, c.as_slice.ensures.value) at c.in_ok-write_file.ensures.whole in
-    let second : Writes b c2 (plan ∷ []) = rw (c.as_str-2.ensures.value, c.in_ok-plan.ensures, c.as_slice-2.ensures.value) at c.in_ok-write_file-2.ensures.whole in
-    let third : Writes c2 d (back ∷ []) = rw (c.as_str-3.ensures.value, c.in_ok-back.ensures, c.as_slice-3.ensures.value) at c.in_ok-write_file-3.ensures.whole in
+    let second : Writes b c2 (plan ∷ []) = rw (c.as_str-2.ensures.value, c.in_ok-plan.ensures, c.as_slice-2.ensures.value) at
+    c.in_ok-write_file-2.ensures.whole in
+    let third : Writes c2 d (back ∷ []) = rw (c.as_str-3.ensures.value, c.in_ok-back.ensures, c.as_slice-3.ensures.value) at
+    c.in_ok-write_file-3.ensures.whole in
     let cut = rw c.as_slice-4.ensures.value at c.in_err-write_file-4.ensures.cut in
     let was = err_from_is_err_and c.from_residual-in_err-write_file-4.result c.from_residual-in_err-write_file-4.ensures.1 in
     rw (was.1, was.2) (cut_fourth a b c2 d e own plan back script _ first second third cut)
@@ -102,7 +105,9 @@ returns-clause-whole g c =
     let d : Option (List FileWrite) = written c.write_file-3.new.outputs in
     let e : Option (List FileWrite) = written c.write_file-4.new.outputs in
     let first : Writes a b (own ∷ []) = rw (c.as_str.ensures.value, c.in_ok-own.ensures, c.as_slice.ensures.value) at c.in_ok-write_file.ensures.whole in
-    let second : Writes b c2 (plan ∷ []) = rw (c.as_str-2.ensures.value, c.in_ok-plan.ensures, c.as_slice-2.ensures.value) at c.in_ok-write_file-2.ensures.whole in
-    let third : Writes c2 d (back ∷ []) = rw (c.as_str-3.ensures.value, c.in_ok-back.ensures, c.as_slice-3.ensures.value) at c.in_ok-write_file-3.ensures.whole in
+    let second : Writes b c2 (plan ∷ []) = rw (c.as_str-2.ensures.value, c.in_ok-plan.ensures, c.as_slice-2.ensures.value) at
+    c.in_ok-write_file-2.ensures.whole in
+    let third : Writes c2 d (back ∷ []) = rw (c.as_str-3.ensures.value, c.in_ok-back.ensures, c.as_slice-3.ensures.value) at
+    c.in_ok-write_file-3.ensures.whole in
     let fourth : Writes d e (script ∷ []) = rw c.as_slice-4.ensures.value at c.in_ok-write_file-4.ensures.whole in
     writes_four a b c2 d e own plan back script why.Memory first second third fourth

@@ -10,7 +10,8 @@ returns-clause-whole g c =
     let written = g.O.OutputFiles.written in
     let record_of : List FileWrite = text_files (option_map (λ name. name.now) c.args.settings.now.record_to) c.args.output.now.hour_record in
     let svg : List FileWrite = text_files (option_map (λ name. name.now) c.args.settings.now.svg) c.args.output.now.picture in
-    writes_both (written c.args.outputs.now) (written c.write_text.new.outputs) (written c.write_text-2.new.outputs) record_of svg c.in_ok-write_text.ensures.whole c.in_ok-write_text-2.ensures.whole
+    writes_both (written c.args.outputs.now) (written c.write_text.new.outputs) (written c.write_text-2.new.outputs) record_of svg
+    c.in_ok-write_text.ensures.whole c.in_ok-write_text-2.ensures.whole
 
 pub returns-in_err-write_text-clause-cut : goal.returns-in_err-write_text-clause-cut
 returns-in_err-write_text-clause-cut g c =
@@ -26,4 +27,5 @@ returns-in_err-write_text-2-clause-cut g c =
     let record_of : List FileWrite = text_files (option_map (λ name. name.now) c.args.settings.now.record_to) c.args.output.now.hour_record in
     let svg : List FileWrite = text_files (option_map (λ name. name.now) c.args.settings.now.svg) c.args.output.now.picture in
     let e = err_from_is_err_and c.from_residual-in_err-write_text-2.result c.from_residual-in_err-write_text-2.ensures.1 in
-    rw (e.1, e.2) (cut_after (written c.args.outputs.now) (written c.write_text.new.outputs) (written c.write_text-2.new.outputs) record_of svg _ c.in_ok-write_text.ensures.whole c.in_err-write_text-2.ensures.cut)
+    rw (e.1, e.2) (cut_after (written c.args.outputs.now) (written c.write_text.new.outputs) (written c.write_text-2.new.outputs) record_of
+    svg _ c.in_ok-write_text.ensures.whole c.in_err-write_text-2.ensures.cut)

@@ -12,14 +12,17 @@ use Rattle.mdbal_ceph.proofs.past.read_past.Goals as goal
 
 -- one more name
 names_more : (names : List (Bor (List ℕ))) (at : ℕ) (other : Bor (List ℕ)) → at < length names
-    → map (λ (name : Bor (List ℕ)). name.now) (take (at + 1) names) ≡ map (λ (name : Bor (List ℕ)). name.now) (take at names) ++ (slice_index_or names at other).now ∷ []
+    → map (λ (name : Bor (List ℕ)). name.now) (take (at + 1) names) ≡ map (λ (name : Bor (List ℕ)). name.now) (take at names)
+    ++ (slice_index_or names at other).now ∷ []
 names_more names at other inside =
     ap (map (λ (name : Bor (List ℕ)). name.now)) (take_more names at other inside)
     ∙ map-append (λ (name : Bor (List ℕ)). name.now) (take at names) (slice_index_or names at other ∷ [])
 
 -- one more earlier hour
-hour_more : (reads : List ℕ → FileContent → Type 0) (says : List ℕ → DumpValue → Type 0) (names : List (List ℕ)) (earlier : List EarlierHour) (hour : EarlierHour)
-    → AreEarlier reads says names earlier → IsRecordOf reads says hour.name.now hour.kept → AreEarlier reads says (names ++ hour.name.now ∷ []) (earlier ++ hour ∷ [])
+hour_more : (reads : List ℕ → FileContent → Type 0) (says : List ℕ → DumpValue → Type 0) (names : List (List ℕ))
+    (earlier : List EarlierHour) (hour : EarlierHour)
+    → AreEarlier reads says names earlier → IsRecordOf reads says hour.name.now hour.kept
+    → AreEarlier reads says (names ++ hour.name.now ∷ []) (earlier ++ hour ∷ [])
 hour_more reads says names earlier hour was here =
     record {
       these =
@@ -29,7 +32,8 @@ hour_more reads says names earlier hour was here =
     }
 
 -- the hour of the next name
-next_more : (reads : List ℕ → FileContent → Type 0) (says : List ℕ → DumpValue → Type 0) (names : List (Bor (List ℕ))) (at : ℕ) (other : Bor (List ℕ)) (earlier after : List EarlierHour)
+next_more : (reads : List ℕ → FileContent → Type 0) (says : List ℕ → DumpValue → Type 0) (names : List (Bor (List ℕ))) (at : ℕ)
+    (other : Bor (List ℕ)) (earlier after : List EarlierHour)
     (kept : HourRecord) → at < length names → AreEarlier reads says (map (λ (name : Bor (List ℕ)). name.now) (take at names)) earlier
     → IsRecordOf reads says (slice_index_or names at other).now kept → after ≡ earlier ++ record { name = slice_index_or names at other; kept = kept } ∷ []
     → AreEarlier reads says (map (λ (name : Bor (List ℕ)). name.now) (take (at + 1) names)) after

@@ -8,6 +8,9 @@ pub returns-clause-failed : goal.returns-clause-failed
 returns-clause-failed g c =
     let reads = g.F.Folder.reads c.args.inputs.now.files.now in
     inl (named_weaker c.args.name.now (IsRefusedFor c.in-Err.error) (IsRecordFault reads c.args.name.now) _
-    (λ one is. subst (IsRecordFault reads c.args.name.now) (sym is)
-    (c.in-Some.bytes.items, rw c.in-Some.is at c.in_ok-bytes.ensures.found, (c.in-Err.ensures.errors, λ number is_hour. (rw c.deref.ensures.value at c.in-Err.ensures.refused) number (ap Err is_hour))))
+    (λ one is. subst (IsRecordFault reads c.args.name.now) (sym is) (
+      c.in-Some.bytes.items,
+      rw c.in-Some.is at c.in_ok-bytes.ensures.found,
+      (c.in-Err.ensures.errors, λ number is_hour. (rw c.deref.ensures.value at c.in-Err.ensures.refused) number (ap Err is_hour)),
+    ))
     c.refused.ensures)

@@ -23,7 +23,8 @@ returns-clause-plan c =
     let most : c.made_most-most.result ≡ made_most asked (length chosen) = c.made_most-most.ensures ∙ ap (made_most asked) count in
     record {
       chosen = chosen;
-      chosen_are = subst (λ (most : ℕ). AreChosenHours asked.ranks given rows asked.wanted c.args.own.now most chosen) c.from-most.ensures c.in_ok-chosen.ensures.chosen;
+      chosen_are = subst (λ (most : ℕ). AreChosenHours asked.ranks given rows asked.wanted c.args.own.now most chosen) c.from-most.ensures
+          c.in_ok-chosen.ensures.chosen;
       free = made.0;
       free_are = made.1;
       now = now;
@@ -46,7 +47,8 @@ returns-in_err-chosen-clause-failed c =
     let e = err_from_is_err_and c.from_residual.result c.from_residual.ensures.1 in
     rw (e.1, e.2)
     (refused_hours c.args.asked.now c.args.rows.now c.args.own.now c.args.given.now was
-    (inl (subst (λ (most : ℕ). IsChoiceRefusal c.args.asked.now.ranks c.args.given.now c.args.rows.now c.args.asked.now.wanted c.args.own.now most was) c.from-most.ensures c.in_err-chosen.ensures.refused)))
+    (inl (subst (λ (most : ℕ). IsChoiceRefusal c.args.asked.now.ranks c.args.given.now c.args.rows.now c.args.asked.now.wanted
+    c.args.own.now most was) c.from-most.ensures c.in_err-chosen.ensures.refused)))
 
 pub returns-in_err-made-clause-failed : goal.returns-in_err-made-clause-failed
 returns-in_err-made-clause-failed c =
@@ -54,11 +56,13 @@ returns-in_err-made-clause-failed c =
     let e = err_from_is_err_and c.from_residual-in_err-made.result c.from_residual-in_err-made.ensures.1 in
     rw (e.1, e.2)
     (⊎_elim (λ is. hours_memory c.args.asked.now c.args.rows.now c.args.own.now c.args.given.now was is)
-    (λ why. refused_hours c.args.asked.now c.args.rows.now c.args.own.now c.args.given.now was (inr (inl (c.index-given-0.result, (0, (c.requires.some, c.index-given-0.is)), why))))
+    (λ why. refused_hours c.args.asked.now c.args.rows.now c.args.own.now c.args.given.now was
+    (inr (inl (c.index-given-0.result, (0, (c.requires.some, c.index-given-0.is)), why))))
     c.in_err-made.ensures.failed)
 
 pub returns-in_err-found-clause-failed : goal.returns-in_err-found-clause-failed
 returns-in_err-found-clause-failed c =
     let e = err_from_is_err_and c.from_residual-in_err-found.result c.from_residual-in_err-found.ensures.1 in
     rw (e.1, e.2)
-    (refused_hours c.args.asked.now c.args.rows.now c.args.own.now c.args.given.now _ (inr (inr (c.deref-3.result.now, c.deref-4.result.now, c.in_err-found.ensures.refused))))
+    (refused_hours c.args.asked.now c.args.rows.now c.args.own.now c.args.given.now _
+    (inr (inr (c.deref-3.result.now, c.deref-4.result.now, c.in_err-found.ensures.refused))))

@@ -8,7 +8,8 @@ use Rattle.mdbal_ceph.specs.Hours.{IsToldHour}
 use Rattle.mdbal_ceph.proofs.planning.told_hours.Goals as goal
 
 -- what is told of each of some hours, and of one more
-told_more : (P : ℕ → PlannedHour → Type 0) (xs : List PlannedHour) (y : PlannedHour) → P (length xs) y → ((k : ℕ) (hour : PlannedHour) → slice_get xs k ≡ Some hour → P k hour)
+told_more : (P : ℕ → PlannedHour → Type 0) (xs : List PlannedHour) (y : PlannedHour) → P (length xs) y
+    → ((k : ℕ) (hour : PlannedHour) → slice_get xs k ≡ Some hour → P k hour)
     → (k : ℕ) (hour : PlannedHour) → slice_get (xs ++ y ∷ []) k ≡ Some hour → P k hour
 told_more P [] y here before zero hour there = subst (P 0) (ap (λ (o : Option PlannedHour). option_map_or (λ (z : PlannedHour). z) o y) there) here
 told_more P [] y here before (suc k) hour there = absurd (none-some hour there)

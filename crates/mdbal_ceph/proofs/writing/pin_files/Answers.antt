@@ -13,8 +13,11 @@ returns-in_err-make_pins_script-clause-failed c =
       asked = c.requires;
       is_proposed = c.args.is_proposed;
       is_back = false;
-      unwritable = λ w. other (c.in_err-make_pins_script.ensures.refused (writable_same c.args.settings.now.mount.now c.as_bytes.result.now (string_bytes c.args.outcome.now.file_system.name) c.as_bytes-2.result.now (string_bytes c.args.outcome.now.file_system.fsid) c.as_bytes-3.result.now
-          c.args.outcome.now.directories.items c.as_slice-directories.result.now (proposed_changes c.args.outcome.now c.args.is_proposed) c.changes_of-changes.result.now (cc) (cc) (cc) (cc) (cc) w));
+      unwritable = λ w. other (c.in_err-make_pins_script.ensures.refused
+          (writable_same c.args.settings.now.mount.now c.as_bytes.result.now (string_bytes c.args.outcome.now.file_system.name)
+          c.as_bytes-2.result.now (string_bytes c.args.outcome.now.file_system.fsid) c.as_bytes-3.result.now
+          c.args.outcome.now.directories.items c.as_slice-directories.result.now (proposed_changes c.args.outcome.now c.args.is_proposed)
+          c.changes_of-changes.result.now (cc) (cc) (cc) (cc) (cc) w));
     }))
 
 pub returns-in_err-make_pins_script-2-clause-failed : goal.returns-in_err-make_pins_script-2-clause-failed
@@ -24,7 +27,11 @@ returns-in_err-make_pins_script-2-clause-failed c =
       asked = c.requires;
       is_proposed = c.args.is_proposed;
       is_back = true;
-      unwritable = λ w. other (c.in_err-make_pins_script-2.ensures.refused (writable_same c.args.settings.now.mount.now c.as_bytes.result.now (string_bytes c.args.outcome.now.file_system.name) c.as_bytes-2.result.now (string_bytes c.args.outcome.now.file_system.fsid) c.as_bytes-3.result.now
-          c.args.outcome.now.directories.items c.as_slice-directories.result.now (inverted c.args.outcome.now.decision.proposal.rows.items (proposed_changes c.args.outcome.now c.args.is_proposed)) c.deref.result.now (cc) (cc) (cc) (cc)
+      unwritable = λ w. other (c.in_err-make_pins_script-2.ensures.refused
+          (writable_same c.args.settings.now.mount.now c.as_bytes.result.now (string_bytes c.args.outcome.now.file_system.name)
+          c.as_bytes-2.result.now (string_bytes c.args.outcome.now.file_system.fsid) c.as_bytes-3.result.now
+          c.args.outcome.now.directories.items c.as_slice-directories.result.now
+          (inverted c.args.outcome.now.decision.proposal.rows.items (proposed_changes c.args.outcome.now c.args.is_proposed))
+          c.deref.result.now (cc) (cc) (cc) (cc)
           (c.deref.ensures.value ∙ (rw (c.as_slice-rows.ensures.value, c.changes_of-changes.ensures) at c.in_ok-back.ensures.inverted)) w));
     }))

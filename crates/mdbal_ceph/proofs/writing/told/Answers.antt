@@ -29,12 +29,16 @@ returns-then-is_json c =
     (λ text e. record {
       facts = facts;
       of = subst (λ (n : ℕ). AreFacts o c.args.is_idle n facts) standing c.facts_of-facts.ensures.facts;
-      moves = subst (λ (ms : List Move). AreMoves o.directories.items o.decision.holds.items o.decision.proposal.rows.items o.decision.proposal.changes.items ms) (sym (c.facts_of-facts.ensures.moves ∙ c.deref-11.ensures.value)) moved;
-      roots = subst (λ (rs : Roots). AreRoots o.directories.items o.decision.proposal.rows.items o.decision.proposal.changes.items o.decision.goals.items rs) (sym c.facts_of-facts.ensures.roots) rooted;
+      moves = subst (λ (ms : List Move). AreMoves o.directories.items o.decision.holds.items o.decision.proposal.rows.items
+          o.decision.proposal.changes.items ms) (sym (c.facts_of-facts.ensures.moves ∙ c.deref-11.ensures.value)) moved;
+      roots = subst (λ (rs : Roots). AreRoots o.directories.items o.decision.proposal.rows.items o.decision.proposal.changes.items
+          o.decision.goals.items rs) (sym c.facts_of-facts.ensures.roots) rooted;
       stays = subst (λ (ss : List (Option Stay)). AreStays o.directories.items ss) (sym c.facts_of-facts.ensures.stays) c.requires;
       told = rw (c.if-is_json.true)
-          (e ∙ ap (λ (changes : List PinChange). json facts c.changes_of-changes.result.now changes c.args.is_proposed) (c.deref-then-is_json-2.ensures.value ∙ undone)
-          ∙ ap (λ (changes : List PinChange). json facts changes (inverted o.decision.proposal.rows.items changes) c.args.is_proposed) c.changes_of-changes.ensures);
+          (e ∙ ap (λ (changes : List PinChange). json facts c.changes_of-changes.result.now changes c.args.is_proposed)
+          (c.deref-then-is_json-2.ensures.value ∙ undone)
+          ∙ ap (λ (changes : List PinChange). json facts changes (inverted o.decision.proposal.rows.items changes) c.args.is_proposed)
+          c.changes_of-changes.ensures);
     })
     c.make_json.ensures
 
@@ -51,8 +55,10 @@ returns c =
     (λ text e. record {
       facts = facts;
       of = subst (λ (n : ℕ). AreFacts o c.args.is_idle n facts) standing c.facts_of-facts.ensures.facts;
-      moves = subst (λ (ms : List Move). AreMoves o.directories.items o.decision.holds.items o.decision.proposal.rows.items o.decision.proposal.changes.items ms) (sym (c.facts_of-facts.ensures.moves ∙ c.deref-11.ensures.value)) moved;
-      roots = subst (λ (rs : Roots). AreRoots o.directories.items o.decision.proposal.rows.items o.decision.proposal.changes.items o.decision.goals.items rs) (sym c.facts_of-facts.ensures.roots) rooted;
+      moves = subst (λ (ms : List Move). AreMoves o.directories.items o.decision.holds.items o.decision.proposal.rows.items
+          o.decision.proposal.changes.items ms) (sym (c.facts_of-facts.ensures.moves ∙ c.deref-11.ensures.value)) moved;
+      roots = subst (λ (rs : Roots). AreRoots o.directories.items o.decision.proposal.rows.items o.decision.proposal.changes.items
+          o.decision.goals.items rs) (sym c.facts_of-facts.ensures.roots) rooted;
       stays = subst (λ (ss : List (Option Stay)). AreStays o.directories.items ss) (sym c.facts_of-facts.ensures.stays) c.requires;
       told = rw (c.if-is_json.false) e;
     })

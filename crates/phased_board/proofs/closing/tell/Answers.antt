@@ -18,14 +18,16 @@ loop-standing-preserved c =
     record {
       told = λ first now orders same all.
           rw (add-one, c.push_reserved.ensures.items)
-          (each_next (IsAsked first now) (IsOutcome first now) orders c.args.standings.now c.loop-standing.standing-index c.standing-item.result c.outcome.result c.loop-standing.outcomes.items all near
+          (each_next (IsAsked first now) (IsOutcome first now) orders c.args.standings.now c.loop-standing.standing-index
+          c.standing-item.result c.outcome.result c.loop-standing.outcomes.items all near
           (λ order is. c.outcome.ensures.told first now order same (subst (λ s. IsAsked first now order s) (sym c.standing-item.is) is))
           (c.loop-standing.invariant.told first now orders same all));
       counted = ap (λ (xs : List Outcome). count_by is_started xs) c.push_reserved.ensures.items
           ∙ (count_snoc is_started c.loop-standing.outcomes.items c.outcome.result
           ∙ (same_sum _ _ _ _ c.loop-standing.invariant.counted (ap ones c.outcome.ensures.counted)
           ∙ (sym (count_snoc is_begun (take c.loop-standing.standing-index c.args.standings.now) c.standing-item.result)
-          ∙ ap (λ (xs : List Standing). count_by is_begun xs) (sym (take_next c.args.standings.now c.loop-standing.standing-index c.standing-item.result near c.standing-item.is)))));
+          ∙ ap (λ (xs : List Standing). count_by is_begun xs)
+          (sym (take_next c.args.standings.now c.loop-standing.standing-index c.standing-item.result near c.standing-item.is)))));
       count = omega arith;
       room = omega arith;
     }

@@ -10,7 +10,8 @@ use Rattle.phased_board.proofs.closing.tell.Given as goal
 -- the orders so far have their outcomes, and there is room for the rest
 abbrev pub invariant-loop-standing : goal.invariant-loop-standing
 invariant-loop-standing l = record {
-  told : (first now : World) (orders : List Order) → now.state.cluster ≡ l.cluster.world → AreAsked first now orders l.standings → AreOutcomes first now (take l.standing-index orders) l.outcomes.items;
+  told : (first now : World) (orders : List Order) → now.state.cluster ≡ l.cluster.world → AreAsked first now orders l.standings
+      → AreOutcomes first now (take l.standing-index orders) l.outcomes.items;
   counted : count_by is_started l.outcomes.items ≡ count_by is_begun (take l.standing-index l.standings);
   count : vec_len l.outcomes ≡ l.standing-index;
   room : length l.standings ≤ vec_capacity l.outcomes;

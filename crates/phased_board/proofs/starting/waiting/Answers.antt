@@ -13,7 +13,8 @@ loop-order-preserved c =
     record {
       asked = λ w.
           rw (take_next c.args.orders.now c.loop-order.order-index c.order-item.result near c.order-item.is, c.in_ok-push.ensures.items)
-          (each_snoc (IsAsked w w) (take c.loop-order.order-index c.args.orders.now) c.loop-order.standings.items c.order-item.result (Waiting c.in_ok-copied.field-0)
+          (each_snoc (IsAsked w w) (take c.loop-order.order-index c.args.orders.now) c.loop-order.standings.items c.order-item.result
+          (Waiting c.in_ok-copied.field-0)
           c.in_ok-copied.ensures (c.loop-order.invariant.asked w));
       none = ap (λ (xs : List Standing). count_by is_begun xs) c.in_ok-push.ensures.items
           ∙ (count_snoc is_begun c.loop-order.standings.items (Waiting c.in_ok-copied.field-0) ∙ ap (λ n. n + 0) c.loop-order.invariant.none);

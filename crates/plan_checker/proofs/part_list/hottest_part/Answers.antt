@@ -1,4 +1,5 @@
-use Rattle.std.proofs.Common.{◌≡◌, ◌↔◌, ◌∙◌, ◌≤◌, ◌^◌, ℕ, IsTrue, length, slice_index, arith, rules, vec_len, ap, sym, eqb, refl, true, MatchOption, All, Contains}
+use Rattle.std.proofs.Common.{◌≡◌, ◌↔◌, ◌∙◌, ◌≤◌, ◌^◌, ℕ, IsTrue, length, slice_index, arith}
+use Rattle.std.proofs.Common.{rules, vec_len, ap, sym, eqb, refl, true, MatchOption, All, Contains}
 use Rattle.std.proofs.lemmas.Bool.{false≢true}
 use Rattle.std.proofs.lemmas.List.{get_or_default}
 use Rattle.mds_types.specs.declared.problem.ProblemRow.{ProblemRow}

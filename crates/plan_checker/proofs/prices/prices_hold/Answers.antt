@@ -1,4 +1,5 @@
-use Rattle.std.proofs.Common.{◌≡◌, ◌∙◌, ◌↔◌, ap, sym, ℕ, pos, true, false, length, slice_index, slice_index_or, arith, rules, w64, FitsSigned, below_more, refl, IsTrue}
+use Rattle.std.proofs.Common.{◌≡◌, ◌∙◌, ◌↔◌, ap, sym, ℕ, pos, true, false, length}
+use Rattle.std.proofs.Common.{slice_index, slice_index_or, arith, rules, w64, FitsSigned, below_more, refl, IsTrue}
 use Rattle.std.proofs.lemmas.Bool.{false≢true}
 use Rattle.std.proofs.lemmas.Int.{to_z-of_z}
 use Rattle.mds_types.specs.RankSet.{has_rank, rank_count}
@@ -56,7 +57,8 @@ returns-then-not-rank_price_holds c =
     let has : has_rank c.args.ranks c.loop-number.number ≡ true =
     ap (has_rank c.args.ranks) (sym c.in-Some.ensures.value) ∙ (sym c.has.ensures ∙ c.if-has.true) in
     let prices : length c.args.rank_price.now ≡ rank_count c.args.ranks = search rules in
-    let price_is : slice_index_or c.args.rank_price.now c.loop-number.place (pos 0) ≡ rank_price_at (dual_of c.args.part_price.now c.args.rank_price.now) c.args.ranks c.loop-number.number =
+    let price_is : slice_index_or c.args.rank_price.now c.loop-number.place (pos 0)
+    ≡ rank_price_at (dual_of c.args.part_price.now c.args.rank_price.now) c.args.ranks c.loop-number.number =
     ap (λ (x : ℕ). slice_index_or c.args.rank_price.now x (pos 0)) c.loop-number.invariant.place_is in
     let costs = column_is c.args.ranks c.args.cells.now c.from-width.result c.loop-number.place number
     (c.from-width.ensures ∙ c.len.ensures.count) c.loop-number.invariant.place_is in
@@ -86,7 +88,8 @@ loop-number-preserved c =
           (let has : has_rank c.args.ranks c.loop-number.number ≡ true =
           ap (has_rank c.args.ranks) (sym c.in-Some.ensures.value) ∙ (sym c.has.ensures ∙ w.if-has.true) in
           let step = rw has at more in
-          let price_is : slice_index_or c.args.rank_price.now c.loop-number.place (pos 0) ≡ rank_price_at (dual_of c.args.part_price.now c.args.rank_price.now) c.args.ranks c.loop-number.number =
+          let price_is : slice_index_or c.args.rank_price.now c.loop-number.place (pos 0)
+          ≡ rank_price_at (dual_of c.args.part_price.now c.args.rank_price.now) c.args.ranks c.loop-number.number =
           ap (λ (x : ℕ). slice_index_or c.args.rank_price.now x (pos 0)) c.loop-number.invariant.place_is in
           let costs = column_is c.args.ranks c.args.cells.now c.from-width.result c.loop-number.place number
           (c.from-width.ensures ∙ c.len.ensures.count) c.loop-number.invariant.place_is in

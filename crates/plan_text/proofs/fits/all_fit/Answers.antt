@@ -5,7 +5,8 @@ use Rattle.plan_text.proofs.fits.all_fit.Goals as goal
 
 pub loop-item-preserved : goal.loop-item-preserved
 loop-item-preserved g c =
-    all_next g.T.Line.fits c.args.items.now c.loop-item.item-index c.item-item.result (omega arith) c.loop-item.invariant (subst g.T.Line.fits c.item-item.is c.known.ensures)
+    all_next g.T.Line.fits c.args.items.now c.loop-item.item-index c.item-item.result (omega arith) c.loop-item.invariant
+    (subst g.T.Line.fits c.item-item.is c.known.ensures)
 
 pub returns : goal.returns
 returns g c =

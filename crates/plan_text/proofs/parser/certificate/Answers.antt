@@ -5,7 +5,8 @@ use Rattle.std.proofs.lemmas.Result.{err_from_is_err_and}
 use Rattle.mds_types.specs.Problem.{ProblemData}
 use Rattle.mds_types.specs.declared.problem.ProblemRow.{ProblemRow}
 use Rattle.plan_text.specs.Reading.{IsMemory, read_end, read_plan}
-use Rattle.plan_text.proofs.ReadingLemmas.{behind_plan, behind_problem, certificate_first, certificate_is, certificate_names, end_again, fails_memory, plan_again}
+use Rattle.plan_text.proofs.ReadingLemmas.{behind_plan, behind_problem, certificate_first, certificate_is}
+use Rattle.plan_text.proofs.ReadingLemmas.{certificate_names, end_again, fails_memory, plan_again}
 use Rattle.plan_text.proofs.parser.certificate.Goals as goal
 
 pub returns-in_default-clause-again : goal.returns-in_default-clause-again

@@ -10,7 +10,9 @@ loop-number-preserved c =
     elim c.if-has.branch [
       | then-has w ↦
           let has : has_rank c.args.ranks c.loop-number.number ≡ true = ap (has_rank c.args.ranks) (sym number) ∙ (sym c.has.ensures ∙ w.if-has.true) in
-          w.bits-is ∙ (ap (λ (b : ℕ). b + 1 * 2 ^ c.loop-number.number % 18446744073709551616) c.loop-number.invariant ∙ (ap (λ (b : ℕ). c.args.ranks % 2 ^ c.loop-number.number + b) (shifted c.loop-number.number (omega arith)) ∙ with_bit c.args.ranks c.loop-number.number has))
+          w.bits-is ∙ (ap (λ (b : ℕ). b + 1 * 2 ^ c.loop-number.number % 18446744073709551616) c.loop-number.invariant
+          ∙ (ap (λ (b : ℕ). c.args.ranks % 2 ^ c.loop-number.number + b) (shifted c.loop-number.number (omega arith))
+          ∙ with_bit c.args.ranks c.loop-number.number has))
       | else-has w ↦
           let has : has_rank c.args.ranks c.loop-number.number ≡ false = ap (has_rank c.args.ranks) (sym number) ∙ (sym c.has.ensures ∙ w.if-has.false) in
           w.bits-is ∙ (c.loop-number.invariant ∙ without_bit c.args.ranks c.loop-number.number (omega arith) has)

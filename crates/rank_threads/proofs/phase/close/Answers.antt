@@ -13,7 +13,8 @@ returns-clause-served g c = λ shares ways scripts served.
     let later = map g.W.Route.way of.ways.items in
     subst (λ (w : World). AreServed g.J.Naming.limit g.K.Phase.before w.history shares ways scripts answers of.shares.items later of.deposited)
     (sym c.compare.ensures.same)
-    (served_later g.J.Naming.limit g.K.Phase.before of.known.seen c.end_all-ended.new.self.history shares ways scripts answers of.shares.items later of.deposited c.compare.ensures.before served)
+    (served_later g.J.Naming.limit g.K.Phase.before of.known.seen c.end_all-ended.new.self.history shares ways scripts answers
+    of.shares.items later of.deposited c.compare.ensures.before served)
 
 pub returns-clause-ended : goal.returns-clause-ended
 returns-clause-ended g c = subst (λ (w : World). IsEndTold g.K.Phase.before w c.end_all-ended.result) (sym c.compare.ensures.same) c.end_all-ended.ensures

@@ -10,7 +10,8 @@ loop-number-preserved c =
     let n = c.loop-number.number in
     let own : OwnRank → Way = λ o. At o.rank in
     let rank : c.in-Some.rank ≡ n = c.in-Some.ensures.value in
-    let pushed = ap (λ (l : List OwnRank). map own l) c.in_ok-push.ensures.items ∙ map-append own c.loop-number.ways.items (record { rank = c.in-Some.rank } ∷ []) in
+    let pushed = ap (λ (l : List OwnRank). map own l) c.in_ok-push.ensures.items
+    ∙ map-append own c.loop-number.ways.items (record { rank = c.in-Some.rank } ∷ []) in
     pushed ∙ (ap (λ (l : List Way). l ++ At c.in-Some.rank ∷ []) c.loop-number.invariant ∙ (ap (λ (r : ℕ). own_ranks 0 n ++ At r ∷ []) rank ∙ sym (own_next n)))
   where
     own_next : (n : ℕ) → own_ranks 0 (n + 1) ≡ own_ranks 0 n ++ At n ∷ []

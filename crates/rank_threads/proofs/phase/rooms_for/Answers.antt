@@ -14,4 +14,5 @@ loop-script-preserved c =
     let small : length item.items ≤ vec_capacity room = grind (arith, common_steps, c.in_ok-with_capacity.ensures.capacity) in
     let fits : length at.items ≤ vec_capacity room = subst (λ (s : Vec Work Global). length s.items ≤ vec_capacity room) c.script-item.is small in
     rw (c.in_ok-push.ensures.items, take_more c.args.scripts.now c.loop-script.script-index item c.loop-script-test.true)
-    (zip_more IsRoomFor (take c.loop-script.script-index c.args.scripts.now) c.loop-script.rooms.items at room c.loop-script.invariant (c.in_ok-with_capacity.ensures.items, fits))
+    (zip_more IsRoomFor (take c.loop-script.script-index c.args.scripts.now) c.loop-script.rooms.items at room c.loop-script.invariant
+    (c.in_ok-with_capacity.ensures.items, fits))

@@ -25,10 +25,14 @@ returns-clause-served g c =
     let answers = map (λ (a : Vec WorkAnswer Global). a.items) ranks.answers.items in
     let later = map (λ own. At own.rank) c.close-phased.result.2.items in
     let many : length c.args.hands.0.items ≡ n = let e = c.requires.equal in grind (arith, common_steps, e) in
-    let closed = c.close-phased.ensures.served c.in-Ok.laid.shares.items (map (λ own. At own.rank) c.in-Ok.laid.ways.items) scripts c.serve_ranks-joined.ensures.served in
-    subst (λ (w : World). AreServed g.J.Naming.limit g.K.Phase.before w.history c.args.hands.0.items (own_ranks 0 n) scripts answers ranks.shares.items (own_ranks 0 n) ranks.deposited) (sym c.into_parts-board.ensures.same)
-    (served_own g.J.Naming.limit g.K.Phase.before c.close-phased.result.0.history n c.args.hands.0.items scripts answers ranks.shares.items later ranks.deposited many
+    let closed = c.close-phased.ensures.served c.in-Ok.laid.shares.items (map (λ own. At own.rank) c.in-Ok.laid.ways.items) scripts
+    c.serve_ranks-joined.ensures.served in
+    subst (λ (w : World). AreServed g.J.Naming.limit g.K.Phase.before w.history c.args.hands.0.items (own_ranks 0 n) scripts answers
+    ranks.shares.items (own_ranks 0 n) ranks.deposited) (sym c.into_parts-board.ensures.same)
+    (served_own g.J.Naming.limit g.K.Phase.before c.close-phased.result.0.history n c.args.hands.0.items scripts answers ranks.shares.items
+    later ranks.deposited many
     (rw (c.in-Ok.ensures.laid.1, c.in-Ok.ensures.laid.2, c.requires.ways) at closed))
 
 pub returns-clause-ended : goal.returns-clause-ended
-returns-clause-ended g c = subst (λ (w : World). IsEndTold g.K.Phase.before w c.close-phased.result.1.ended) (sym c.into_parts-board.ensures.same) c.close-phased.ensures.ended
+returns-clause-ended g c = subst (λ (w : World). IsEndTold g.K.Phase.before w c.close-phased.result.1.ended)
+    (sym c.into_parts-board.ensures.same) c.close-phased.ensures.ended

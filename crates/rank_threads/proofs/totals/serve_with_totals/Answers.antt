@@ -28,7 +28,8 @@ returns-in-Ok-clause-totals g c =
     let kept = whole_after true false [] g.J.Naming.limit c.audit.new.self c.serve_phase-board.result.0 c.audit.new.shares.items _ _ c.in-Ok.ranks.shares.items
     c.serve_phase-board.ensures.board returned whole in
     rw (← same.0, ← same.1)
-    (totals_after g.J.Naming.limit c.audit.new.self c.audit-in-Ok.new.self c.audit.new.shares.items _ _ c.audit-in-Ok.new.shares.items (rw (← again.1) at returned)
+    (totals_after g.J.Naming.limit c.audit.new.self c.audit-in-Ok.new.self c.audit.new.shares.items _ _ c.audit-in-Ok.new.shares.items
+    (rw (← again.1) at returned)
     (record { begun = c.audit.ensures.begun; hits = c.audit.ensures.hits }) (record { begun = c.audit-in-Ok.ensures.begun; hits = c.audit-in-Ok.ensures.hits })
     (ap weight_of again.1 ∙ (kept ∙ sym (ap (λ (w : World). w.shares) again.0))))
 

@@ -46,15 +46,19 @@ returns-clause-served g c =
     let answers = map (λ (a : Vec WorkAnswer Global). a.items) ranks.answers.items in
     let ways = map (λ (r : List Operation). ByMap r) c.args.hands.1.items in
     let later = map (λ (r : List Operation). ByMap r) c.close-phased.result.2.items in
-    let closed = c.close-phased.ensures.served c.in-Ok.laid.shares.items (map (λ (r : List Operation). ByMap r) c.in-Ok.laid.ways.items) scripts c.serve_ranks-joined.ensures.served in
-    subst (λ (b : World). AreServed g.J.Naming.limit b c.into_parts-board.result.0.history c.args.hands.0.items ways scripts answers ranks.shares.items later ranks.deposited) (sym c.requires.board)
-    (subst (λ (w : World). AreServed g.J.Naming.limit g.K.Phase.before w.history c.args.hands.0.items ways scripts answers ranks.shares.items later ranks.deposited) (sym (c.into_parts-board.ensures.same ∙ c.compare.ensures.same))
+    let closed = c.close-phased.ensures.served c.in-Ok.laid.shares.items (map (λ (r : List Operation). ByMap r) c.in-Ok.laid.ways.items)
+    scripts c.serve_ranks-joined.ensures.served in
+    subst (λ (b : World). AreServed g.J.Naming.limit b c.into_parts-board.result.0.history c.args.hands.0.items ways scripts answers
+    ranks.shares.items later ranks.deposited) (sym c.requires.board)
+    (subst (λ (w : World). AreServed g.J.Naming.limit g.K.Phase.before w.history c.args.hands.0.items ways scripts answers
+    ranks.shares.items later ranks.deposited) (sym (c.into_parts-board.ensures.same ∙ c.compare.ensures.same))
     (rw (c.in-Ok.ensures.laid.1, c.in-Ok.ensures.laid.2) at closed))
 
 pub returns-clause-ended : goal.returns-clause-ended
 returns-clause-ended g c =
     subst (λ (b : World). IsEndTold b c.into_parts-board.result.0 c.close-phased.result.1.ended) (sym c.requires.board)
-    (subst (λ (w : World). IsEndTold g.K.Phase.before w c.close-phased.result.1.ended) (sym (c.into_parts-board.ensures.same ∙ c.compare.ensures.same)) c.close-phased.ensures.ended)
+    (subst (λ (w : World). IsEndTold g.K.Phase.before w c.close-phased.result.1.ended)
+    (sym (c.into_parts-board.ensures.same ∙ c.compare.ensures.same)) c.close-phased.ensures.ended)
 
 pub returns-clause-outcomes : goal.returns-clause-outcomes
 returns-clause-outcomes g c =

@@ -10,7 +10,8 @@ audit-requires-in-Ok g c =
     let same = c.audit.ensures.same in
     let returned = (rw c.in-Ok.is at c.traffic_phase-board.ensures.served).returned in
     let whole = ap weight_of same.1 ∙ (c.requires.whole ∙ sym (ap (λ (w : World). w.shares) same.0)) in
-    whole_after true true (ranks_of c.args.tasks.stops.now) g.J.Naming.limit c.audit.new.self c.traffic_phase-board.result.0 c.audit.new.shares.items _ _ c.in-Ok.traffic.ranks.shares.items
+    whole_after true true (ranks_of c.args.tasks.stops.now) g.J.Naming.limit c.audit.new.self c.traffic_phase-board.result.0
+    c.audit.new.shares.items _ _ c.in-Ok.traffic.ranks.shares.items
     c.traffic_phase-board.ensures.board returned whole
 
 pub returns-in-Ok-clause-served : goal.returns-in-Ok-clause-served
@@ -26,10 +27,12 @@ returns-in-Ok-clause-totals g c =
     let again = c.audit-in-Ok.ensures.same in
     let returned = (rw c.in-Ok.is at c.traffic_phase-board.ensures.served).returned in
     let whole = ap weight_of same.1 ∙ (c.requires.whole ∙ sym (ap (λ (w : World). w.shares) same.0)) in
-    let kept = whole_after true true (ranks_of c.args.tasks.stops.now) g.J.Naming.limit c.audit.new.self c.traffic_phase-board.result.0 c.audit.new.shares.items _ _ c.in-Ok.traffic.ranks.shares.items
+    let kept = whole_after true true (ranks_of c.args.tasks.stops.now) g.J.Naming.limit c.audit.new.self c.traffic_phase-board.result.0
+    c.audit.new.shares.items _ _ c.in-Ok.traffic.ranks.shares.items
     c.traffic_phase-board.ensures.board returned whole in
     rw (← same.0, ← same.1)
-    (totals_after g.J.Naming.limit c.audit.new.self c.audit-in-Ok.new.self c.audit.new.shares.items _ _ c.audit-in-Ok.new.shares.items (rw (← again.1) at returned)
+    (totals_after g.J.Naming.limit c.audit.new.self c.audit-in-Ok.new.self c.audit.new.shares.items _ _ c.audit-in-Ok.new.shares.items
+    (rw (← again.1) at returned)
     (record { begun = c.audit.ensures.begun; hits = c.audit.ensures.hits }) (record { begun = c.audit-in-Ok.ensures.begun; hits = c.audit-in-Ok.ensures.hits })
     (ap weight_of again.1 ∙ (kept ∙ sym (ap (λ (w : World). w.shares) again.0))))
 

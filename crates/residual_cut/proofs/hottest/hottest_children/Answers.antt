@@ -11,8 +11,10 @@ pub loop-row-init : goal.loop-row-init
 loop-row-init c =
     let read : c.index-row.result.now ≡ slice_index c.args.of.trees.now.links.first.items c.args.i =
     c.index-row.ensures
-    ∙ get_or_default c.args.of.trees.now.links.first.items c.args.i c.index-row.result.now 0 (omega (arith, c.args.of.can_probe.trees_are.linked.first_size, c.requires.inside)) in
-    let next : IsNextChild c.args.of.rows.now c.args.i 0 c.index-row.result.now = rw read (c.args.of.can_probe.trees_are.linked.children c.args.i c.requires.inside) in
+    ∙ get_or_default c.args.of.trees.now.links.first.items c.args.i c.index-row.result.now 0
+    (omega (arith, c.args.of.can_probe.trees_are.linked.first_size, c.requires.inside)) in
+    let next : IsNextChild c.args.of.rows.now c.args.i 0 c.index-row.result.now =
+    rw read (c.args.of.can_probe.trees_are.linked.children c.args.i c.requires.inside) in
     record {
       are = rw c.new.ensures.items (hottest_none c.args.of.rows.now (slice_index c.args.rest.now) c.args.i c.index-row.result.now c.args.most next);
       full = λ some. absurd (omega arith);

@@ -10,7 +10,9 @@ returns-clause-hottest c =
     let first = length c.sort_unstable.new.self - c.args.most in
     turned_hot c.sort_unstable.new.self c.rotate_left.new.self c.args.most first _
     (omega (arith, c.requires.enough, c.sort_unstable.ensures.len)) c.rotate_left.ensures.after
-    (λ d. ap (λ (y : Child). y.rest) (get_or_default c.sort_unstable.new.self first d _ (omega (arith, c.requires.enough, c.requires.some, c.sort_unstable.ensures.len))))
+    (λ d. ap (λ (y : Child). y.rest)
+    (get_or_default c.sort_unstable.new.self first d _
+    (omega (arith, c.requires.enough, c.requires.some, c.sort_unstable.ensures.len))))
     c.requires.some c.sort_unstable.ensures.sorted
 
 pub returns-clause-others : goal.returns-clause-others
@@ -18,7 +20,9 @@ returns-clause-others c =
     let first = length c.sort_unstable.new.self - c.args.most in
     turned_cool c.sort_unstable.new.self c.rotate_left.new.self c.args.most first _
     (omega (arith, c.requires.enough, c.sort_unstable.ensures.len)) c.rotate_left.ensures.after
-    (λ d. ap (λ (y : Child). y.rest) (get_or_default c.sort_unstable.new.self first d _ (omega (arith, c.requires.enough, c.requires.some, c.sort_unstable.ensures.len))))
+    (λ d. ap (λ (y : Child). y.rest)
+    (get_or_default c.sort_unstable.new.self first d _
+    (omega (arith, c.requires.enough, c.requires.some, c.sort_unstable.ensures.len))))
     c.requires.some c.sort_unstable.ensures.sorted
 
 pub returns-clause-among : goal.returns-clause-among
@@ -27,7 +31,9 @@ returns-clause-among c =
     (let first = length c.sort_unstable.new.self - c.args.most in
     turned_among c.sort_unstable.new.self c.rotate_left.new.self c.args.most first _
     (omega (arith, c.requires.enough, c.sort_unstable.ensures.len)) c.rotate_left.ensures.after
-    (λ d. ap (λ (y : Child). y.rest) (get_or_default c.sort_unstable.new.self first d _ (omega (arith, c.requires.enough, c.requires.some, c.sort_unstable.ensures.len))))
+    (λ d. ap (λ (y : Child). y.rest)
+    (get_or_default c.sort_unstable.new.self first d _
+    (omega (arith, c.requires.enough, c.requires.some, c.sort_unstable.ensures.len))))
     c.requires.some c.sort_unstable.ensures.sorted rest
     (All-permutation (λ (y : Child). rest ≤ y.rest) c.args.children.now c.sort_unstable.new.self c.sort_unstable.ensures.permutation all))
 

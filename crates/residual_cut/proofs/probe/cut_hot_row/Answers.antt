@@ -22,14 +22,16 @@ returns-in_default-clause-done c =
     let size : length (heap_items c.loop.heap) ≡ heap_len c.loop.heap = search rules in
     λ _. cutting_empty c.args.of.rows.now (slice_index c.args.of.trees.now.heat.items) (slice_index c.loop.rest) c.args.bound c.args.i
     (c.args.of.ranks - c.args.seen.now.cuts - c.loop.counter) c.loop.seen (heap_items c.loop.heap) c.args.of.can_probe.forest c.requires.inside
-    (omega (arith, c.args.of.can_probe.cool c.args.i c.requires.inside, c.requires.low)) c.loop.invariant.cutting (size ∙ c.in_default.ensures.none) (omega arith)
+    (omega (arith, c.args.of.can_probe.cool c.args.i c.requires.inside, c.requires.low)) c.loop.invariant.cutting
+    (size ∙ c.in_default.ensures.none) (omega arith)
 
 pub loop-preserved : goal.loop-preserved
 loop-preserved c =
     let heat : ℕ → ℕ = slice_index c.args.of.trees.now.heat.items in
     let i = c.args.i in
     let most = c.args.of.ranks - c.args.seen.now.cuts - c.loop.counter in
-    let pop : IsPopped c.args.of.rows.now (rest_at c.loop.invariant.cutting.probed.table) (is_cut_at c.loop.invariant.cutting.probed.table) c.args.i c.in-Some.child =
+    let pop : IsPopped c.args.of.rows.now (rest_at c.loop.invariant.cutting.probed.table) (is_cut_at c.loop.invariant.cutting.probed.table)
+    c.args.i c.in-Some.child =
     cutting_popped c.args.of.rows.now heat (slice_index c.loop.rest) c.args.bound i most c.loop.seen (heap_items c.loop.heap)
     (heap_items c.pop.new.self) c.in-Some.child c.loop.invariant.cutting c.in-Some.ensures.permutation
     (c.in-Some.ensures.heap_order c.loop.invariant.order).1 in

@@ -61,7 +61,8 @@ pub cut_row-requires-2-clause-probing : goal.cut_row-requires-2-clause-probing
 cut_row-requires-2-clause-probing c =
     let last : c.loop-k.k ≡ length c.args.of.trees.now.hot.items = omega arith in
     let P : ℕ → Type 0 = λ k. IsProbed c.args.of.rows.now (slice_index c.args.of.trees.now.heat.items) (slice_index c.loop-k.rest) c.args.bound
-    (limit_of (length c.args.of.rows.now) c.args.of.trees.now.hot.items k) (limit_of (length c.args.of.rows.now) c.args.of.trees.now.hot.items k) c.loop-k.seen in
+    (limit_of (length c.args.of.rows.now) c.args.of.trees.now.hot.items k)
+    (limit_of (length c.args.of.rows.now) c.args.of.trees.now.hot.items k) c.loop-k.seen in
     let probed = probed_to_root c.args.of.rows.now (slice_index c.args.of.trees.now.heat.items) (slice_index c.loop-k.rest) c.args.bound
     c.args.of.trees.now.low c.args.of.trees.now.hot.items c.loop-k.seen c.args.of.can_probe.forest c.args.of.can_probe.trees_are.sums
     c.args.of.can_probe.trees_are.hot c.requires.low c.args.of.can_probe.some (subst P last c.loop-k.invariant.probed) in
@@ -70,7 +71,8 @@ cut_row-requires-2-clause-probing c =
 pub returns-clause-few : goal.returns-clause-few
 returns-clause-few c =
     λ few. (probed_end c.args.of.rows.now (slice_index c.args.of.trees.now.heat.items) (slice_index c.cut_row-2.new.rest) c.args.bound c.args.of.ranks
-    c.cut_row-2.new.seen c.args.of.can_probe.forest c.args.of.can_probe.some (λ v l. omega (arith, c.args.of.can_probe.cool v l, c.requires.low)) (c.in_ok-cut_row.ensures.done few) few
+    c.cut_row-2.new.seen c.args.of.can_probe.forest c.args.of.can_probe.some
+    (λ v l. omega (arith, c.args.of.can_probe.cool v l, c.requires.low)) (c.in_ok-cut_row.ensures.done few) few
     c.in_ok-cut_row.ensures.probed).0
 
 pub returns-clause-more : goal.returns-clause-more

@@ -16,6 +16,8 @@ loop-number-preserved g c =
     record {
       size = c.mark.ensures.size ∙ c.loop-number.invariant.size;
       marks = λ m inside.
-          delivered_more history i m e (get_or c.loop-number.marks.items m false) (get_or c.mark.new.marks.items m false) (slice_get_within history i e at) at (c.loop-number.invariant.marks m inside)
-          (c.mark.ensures.marked m (subst (λ (n : ℕ). m < n) (sym c.loop-number.invariant.size) inside) ∙ ap (λ (o : Option ℕ). get_or c.loop-number.marks.items m false || is_that m o) c.message_come.ensures);
+          delivered_more history i m e (get_or c.loop-number.marks.items m false) (get_or c.mark.new.marks.items m false)
+          (slice_get_within history i e at) at (c.loop-number.invariant.marks m inside)
+          (c.mark.ensures.marked m (subst (λ (n : ℕ). m < n) (sym c.loop-number.invariant.size) inside)
+          ∙ ap (λ (o : Option ℕ). get_or c.loop-number.marks.items m false || is_that m o) c.message_come.ensures);
     }

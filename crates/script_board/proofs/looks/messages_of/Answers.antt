@@ -16,13 +16,16 @@ loop-message-preserved g c =
     let test : ℕ → Bool = is_message_of c.args.board.now c.args.export in
     let more : filter test (below (n + 1)) ≡ filter test (below n) ++ cond (test n) (n ∷ []) [] = below_more test n in
     let same : (c.export.result == c.args.export) ≡ test n = ap (λ (k : ℕ). k == c.args.export) (c.export.ensures ∙ ap about c.sent_message.ensures) in
-    let sent : n < length c.args.board.now.state.cluster.sent = subst (λ (k : ℕ). n < k) (c.sent-message-end.ensures ∙ ap (λ (w : Exports). length w.sent) c.cluster.ensures) c.loop-message-test.true in
+    let sent : n < length c.args.board.now.state.cluster.sent =
+    subst (λ (k : ℕ). n < k) (c.sent-message-end.ensures ∙ ap (λ (w : Exports). length w.sent) c.cluster.ensures)
+    c.loop-message-test.true in
     elim c.if-export.branch [
       | then-export+in_ok-push w ↦
           let is : test n ≡ true = sym same ∙ eq-eqb c.export.result c.args.export w.if-export.true in
           record {
             messages = rw (w.found-is, w.in_ok-push.ensures.items, c.loop-message.invariant.messages, more, is) refl;
-            inside = all_more (λ m. m < length c.args.board.now.state.cluster.sent) c.loop-message.found.items c.if-export.found.items n (rw (w.found-is, w.in_ok-push.ensures.items) refl) c.loop-message.invariant.inside sent;
+            inside = all_more (λ m. m < length c.args.board.now.state.cluster.sent) c.loop-message.found.items c.if-export.found.items n
+                (rw (w.found-is, w.in_ok-push.ensures.items) refl) c.loop-message.invariant.inside sent;
           }
       | else-export w ↦
           let is : test n ≡ false = sym same ∙ ne_eqb c.export.result c.args.export w.if-export.false in

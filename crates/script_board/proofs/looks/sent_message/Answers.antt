@@ -8,5 +8,6 @@ use Rattle.script_board.proofs.looks.sent_message.Goals as goal
 
 pub returns-in-None : goal.returns-in-None
 returns-in-None g c =
-    let none : None ≡ slice_get c.args.board.now.state.cluster.sent c.args.message = sym c.in-None.is ∙ (c.message.ensures ∙ ap (λ (w : Exports). slice_get w.sent c.args.message) c.cluster.ensures) in
+    let none : None ≡ slice_get c.args.board.now.state.cluster.sent c.args.message = sym c.in-None.is
+    ∙ (c.message.ensures ∙ ap (λ (w : Exports). slice_get w.sent c.args.message) c.cluster.ensures) in
     ap (λ (o : Option Message). unwrap_or o (Discover 0)) none ∙ unwrap_or-slice_get c.args.board.now.state.cluster.sent c.args.message (Discover 0)

@@ -16,4 +16,5 @@ loop-reader-preserved g c =
 pub returns : goal.returns
 returns g c =
     let told : List Operation = c.args.board.now.published in
-    subst (λ (rs : List (List Operation)). All (λ r. IsPrefix r told ⊎ IsPrefix told r) rs) (take_all c.loop-reader.reader-index c.args.readers.now c.loop-reader-test.false) c.loop-reader.invariant
+    subst (λ (rs : List (List Operation)). All (λ r. IsPrefix r told ⊎ IsPrefix told r) rs)
+    (take_all c.loop-reader.reader-index c.args.readers.now c.loop-reader-test.false) c.loop-reader.invariant

@@ -18,7 +18,8 @@ pub returns-in-Some-proofs : goal.returns-in-Some-proofs
 returns-in-Some-proofs g c =
     with_kept g.R.Read.remaining c.args.input.now c.prove-status.new.input (g.W.Write.contents c.args.writer.now) (g.W.Write.contents c.prove-status.new.writer)
     c.args.settings.now.limit c.args.settings.now.strict (λ file. file.now) c.args.settings.now.proofs c.in-Some.name c.in-Some.is
-    (g.F.ProofFiles.holds c.create.new.self) (g.F.ProofFiles.holds c.keep.new.self) g.F.File.Write.contents c.in-Ok.file c.prove-status.new.proofs c.in-Some-proofs.file _ c.in-Some-proofs.is
+    (g.F.ProofFiles.holds c.create.new.self) (g.F.ProofFiles.holds c.keep.new.self) g.F.File.Write.contents c.in-Ok.file
+    c.prove-status.new.proofs c.in-Some-proofs.file _ c.in-Some-proofs.is
     c.in-Ok.ensures c.keep.ensures c.prove-status.ensures
 
 pub returns-in_default-proofs : goal.returns-in_default-proofs

@@ -39,7 +39,8 @@ returns-then-accepted g c =
           c.args.settings.now.limit c.args.settings.now.strict _ _ c.run-ended.result true
           (HasAllIn (option_and_then g.P.Write.contents c.args.proofs.now) (option_and_then g.P.Write.contents c.run-ended.new.proofs))
           c.run-ended.ensures.run (c.in-Ok-answered.is ∙ ap Ok c.if-accepted.true)
-          (all_in _ _ c.run-ended.result.proved c.certificates_are_best.ensures.best c.certificates_are_best.ensures.certified c.in_default-proved.field-0 c.in_default-proved.is),
+          (all_in _ _ c.run-ended.result.proved c.certificates_are_best.ensures.best c.certificates_are_best.ensures.certified
+          c.in_default-proved.field-0 c.in_default-proved.is),
     )
 
 pub returns-else-accepted : goal.returns-else-accepted
@@ -50,5 +51,6 @@ returns-else-accepted g c =
           c.args.settings.now.limit c.args.settings.now.strict _ _ c.run-ended.result false
           (HasAllIn (option_and_then g.P.Write.contents c.args.proofs.now) (option_and_then g.P.Write.contents c.run-ended.new.proofs))
           c.run-ended.ensures.run (c.in-Ok-answered.is ∙ ap Ok c.if-accepted.false)
-          (all_in _ _ c.run-ended.result.proved c.certificates_are_best.ensures.best c.certificates_are_best.ensures.certified c.in_default-proved.field-0 c.in_default-proved.is),
+          (all_in _ _ c.run-ended.result.proved c.certificates_are_best.ensures.best c.certificates_are_best.ensures.certified
+          c.in_default-proved.field-0 c.in_default-proved.is),
     ))

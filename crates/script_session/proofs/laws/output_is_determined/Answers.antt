@@ -9,4 +9,5 @@ use Rattle.script_session.proofs.laws.output_is_determined.Goals as goal
 
 pub returns : goal.returns
 returns c = λ limit strict bytes replies last sure run ample.
-    ap (λ (rs : List Answer). text_of rs) (run_played is_sure answers answer_to strict session_determined (beginning limit) last 1 (lines_of bytes) replies sure run ample).0
+    ap (λ (rs : List Answer). text_of rs)
+    (run_played is_sure answers answer_to strict session_determined (beginning limit) last 1 (lines_of bytes) replies sure run ample).0

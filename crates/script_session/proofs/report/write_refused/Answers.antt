@@ -8,9 +8,11 @@ use Rattle.script_session.proofs.report.write_refused.Goals as goal
 
 pub loop-fault-preserved : goal.loop-fault-preserved
 loop-fault-preserved g c =
-    written_more (λ (fault : Fault). fault_text c.args.number (words fault)) c.args.refused.now c.loop-fault.fault-index c.fault-item.result c.loop-fault-test.true (sym c.fault-item.is) _ _ _ c.loop-fault.invariant c.in_ok-write_fault.ensures.ok
+    written_more (λ (fault : Fault). fault_text c.args.number (words fault)) c.args.refused.now c.loop-fault.fault-index c.fault-item.result
+    c.loop-fault-test.true (sym c.fault-item.is) _ _ _ c.loop-fault.invariant c.in_ok-write_fault.ensures.ok
 
 pub returns-in_err-write_fault-clause-err : goal.returns-in_err-write_fault-clause-err
 returns-in_err-write_fault-clause-err g c =
     let e = err_from_is_err_and c.from_residual.result c.from_residual.ensures.1 in
-    rw e.1 (written_front (λ (fault : Fault). fault_text c.args.number (words fault)) c.args.refused.now c.loop-fault.fault-index c.fault-item.result c.loop-fault-test.true (sym c.fault-item.is) _ _ _ c.loop-fault.invariant c.in_err-write_fault.ensures.err)
+    rw e.1 (written_front (λ (fault : Fault). fault_text c.args.number (words fault)) c.args.refused.now c.loop-fault.fault-index
+    c.fault-item.result c.loop-fault-test.true (sym c.fault-item.is) _ _ _ c.loop-fault.invariant c.in_err-write_fault.ensures.err)

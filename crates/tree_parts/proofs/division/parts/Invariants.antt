@@ -8,5 +8,6 @@ use Rattle.tree_parts.proofs.division.parts.Given as goal
 abbrev pub invariant-loop-top : goal.invariant-loop-top
 invariant-loop-top l = record {
   end : l.top ≤ length l.tree.entries;
-  parts : (tops : List ℕ) → Marks l.is_top tops → l.parts.items ≡ map (part_at l.tree.entries l.pins.own l.heat.heats tops) (filter (is_free_top l.tree.entries l.pins.own tops) (below l.top));
+  parts : (tops : List ℕ) → Marks l.is_top tops → l.parts.items
+      ≡ map (part_at l.tree.entries l.pins.own l.heat.heats tops) (filter (is_free_top l.tree.entries l.pins.own tops) (below l.top));
 }

@@ -31,11 +31,15 @@ loop-member-preserved c =
           let heat_before : w.index-before.result.now.heat ≡ (get_or totals top nothing).heat = ap (λ (sum : Total). sum.heat) before in
           let inodes_before : w.index-before.result.now.inodes ≡ (get_or totals top nothing).inodes = ap (λ (sum : Total). sum.inodes) before in
           let is : more ≡ plus (get_or totals top nothing) (slice_index heats n) (inodes_of es n) =
-          w.with.ensures ∙ plus-same w.index-before.result.now (get_or totals top nothing) w.heat.result (slice_index heats n) w.inodes.result (inodes_of es n) before (w.heat.ensures.value ∙ ap (slice_index heats) w.new-dir.ensures) (w.inodes.ensures.value ∙ ap (inodes_of es) w.new-dir.ensures) in
+          w.with.ensures ∙ plus-same w.index-before.result.now (get_or totals top nothing) w.heat.result (slice_index heats n)
+          w.inodes.result (inodes_of es n) before (w.heat.ensures.value ∙ ap (slice_index heats) w.new-dir.ensures)
+          (w.inodes.ensures.value ∙ ap (inodes_of es) w.new-dir.ensures) in
           rw w.totals-is (record {
             size = simp length-set c.loop-member.invariant.size;
-            heat = bounded_more (λ sum. sum.heat) totals (length es) (2 ^ 40) (n * 2 ^ 40) ((n + 1) * 2 ^ 40) top more place within (omega (arith, was_heat, heat_before, w.heat.ensures.limited)) (omega arith) c.loop-member.invariant.heat;
-            inodes = bounded_more (λ sum. sum.inodes) totals (length es) (2 ^ 32) (n * 2 ^ 32) ((n + 1) * 2 ^ 32) top more place within (omega (arith, was_inodes, inodes_before, w.inodes.ensures.small)) (omega arith) c.loop-member.invariant.inodes;
+            heat = bounded_more (λ sum. sum.heat) totals (length es) (2 ^ 40) (n * 2 ^ 40) ((n + 1) * 2 ^ 40) top more place within
+                (omega (arith, was_heat, heat_before, w.heat.ensures.limited)) (omega arith) c.loop-member.invariant.heat;
+            inodes = bounded_more (λ sum. sum.inodes) totals (length es) (2 ^ 32) (n * 2 ^ 32) ((n + 1) * 2 ^ 32) top more place within
+                (omega (arith, was_inodes, inodes_before, w.inodes.ensures.small)) (omega arith) c.loop-member.invariant.inodes;
             counted = counted_more es heats marks tops totals (length es) n top more w.if-is_free.true at place within is c.loop-member.invariant.counted;
           })
       | else-is_free w ↦
@@ -43,6 +47,7 @@ loop-member-preserved c =
             size = c.loop-member.invariant.size;
             heat = λ t h. omega (arith, c.loop-member.invariant.heat t h);
             inodes = λ t h. omega (arith, c.loop-member.invariant.inodes t h);
-            counted = λ t h. c.loop-member.invariant.counted t h ∙ sym (counted_same es heats marks tops n t (and_left (get_or marks n false) _ w.if-is_free.false));
+            counted = λ t h. c.loop-member.invariant.counted t h
+                ∙ sym (counted_same es heats marks tops n t (and_left (get_or marks n false) _ w.if-is_free.false));
           })
     ]

@@ -10,7 +10,9 @@ use Rattle.tree_parts.specs.Orders.{order_of, orders, tops}
 use Rattle.tree_parts.proofs.Sets.{are_orders}
 use Rattle.tree_parts.proofs.SoFar.{begun_more, joined_more, skipped}
 use Rattle.tree_parts.proofs.largest_sets.orders.Goals as goal
-use Rattle.tree_parts.proofs.largest_sets.orders.Goals.{in-Some+in-Some-parent_that_moves_too+in_ok-join-in-Some-parent_that_moves_too, in-Some+in-None+in_ok-begin-in-None, in_default}
+use Rattle.tree_parts.proofs.largest_sets.orders.Goals.{in-Some+in-Some-parent_that_moves_too+in_ok-join-in-Some-parent_that_moves_too}
+use Rattle.tree_parts.proofs.largest_sets.orders.Goals.{in-Some+in-None+in_ok-begin-in-None}
+use Rattle.tree_parts.proofs.largest_sets.orders.Goals.{in_default}
 
 pub loop-number-preserved : goal.loop-number-preserved
 loop-number-preserved c =
@@ -28,7 +30,12 @@ loop-number-preserved c =
           let other : is_top es move n ≡ false = sym (ap (is_top es move) c.new-dir.ensures) ∙ w.in-Some-parent_that_moves_too.ensures.0 in
           let is : parent ≡ parent_of es n = w.in-Some-parent_that_moves_too.ensures.1 ∙ ap (parent_of es) c.new-dir.ensures in
           let so_far = joined_more es move c.numbers-number-end.ensures.tree n parent os places at (ap is_some moves) other is c.loop-number.invariant.so_far in
-          rw (w.found-is, w.in_ok-join-in-Some-parent_that_moves_too.ensures.orders, w.in_ok-join-in-Some-parent_that_moves_too.ensures.places, c.new-dir.ensures) (record {
+          rw (
+            w.found-is,
+            w.in_ok-join-in-Some-parent_that_moves_too.ensures.orders,
+            w.in_ok-join-in-Some-parent_that_moves_too.ensures.places,
+            c.new-dir.ensures,
+          ) (record {
             end = omega (arith, inside);
             size = length-set places n (get_or places parent 0) ∙ c.loop-number.invariant.size;
             so_far = so_far;
@@ -57,7 +64,9 @@ returns-clause-largest c =
     let now : List (Option ℕ) = c.args.now.now in
     let target : List (Option ℕ) = c.args.target.now in
     let all : c.loop-number.number ≡ length es = omega (arith, c.loop-number-test.false, c.loop-number.invariant.end, c.numbers-number-end.ensures.value) in
-    let found : c.loop-number.found.orders.items ≡ orders es now target = c.loop-number.invariant.so_far.listed ∙ ap (λ (n : ℕ). map (order_of es (move_of es now target) n) (tops es (move_of es now target) n)) all in
-    IfOk-weaker c.into_orders.result (λ (os : Vec Order Global). os.items ≡ c.loop-number.found.orders.items) (λ (os : Vec Order Global). AreOrders es now target os.items)
+    let found : c.loop-number.found.orders.items ≡ orders es now target = c.loop-number.invariant.so_far.listed
+    ∙ ap (λ (n : ℕ). map (order_of es (move_of es now target) n) (tops es (move_of es now target) n)) all in
+    IfOk-weaker c.into_orders.result (λ (os : Vec Order Global). os.items ≡ c.loop-number.found.orders.items)
+    (λ (os : Vec Order Global). AreOrders es now target os.items)
     (λ os is. subst (AreOrders es now target) (sym (is ∙ found)) (are_orders es now target c.numbers-number-end.ensures.tree))
     c.into_orders.ensures

@@ -26,11 +26,25 @@ loop-i-preserved c =
           let label : slice_index c.as_slice-part.result.now n ≡ plan_label plan n = ap (λ (xs : List ℕ). slice_index xs n) seen_part in
           let within : plan_label plan n < length plan.rank = c.requires.labels n inside in
           let place : plan_label plan n < length c.in_ok-totals.totals.items = omega (arith, within, c.in_ok-totals.ensures.size, ap length seen_rank) in
-          let top_is : w.index-dirs-i.result ≡ slice_index dirs n = read dirs n w.index-dirs-i.result 0 (omega (arith, inside, c.requires.dirs)) w.index-dirs-i.is in
-          let rank_is : w.index-rank-label.result ≡ plan_rank plan (plan_label plan n) = read plan.rank (plan_label plan n) w.index-rank-label.result 0 within (rw (seen_rank, label) at w.index-rank-label.is) in
-          let seen : w.index-total.result.now ≡ get_or c.in_ok-totals.totals.items (plan_label plan n) nothing = read c.in_ok-totals.totals.items (plan_label plan n) w.index-total.result.now nothing place (rw label at w.index-total.ensures) in
-          let counted : get_or c.in_ok-totals.totals.items (plan_label plan n) nothing ≡ total_of rows (plan_label plan) (length rows) (plan_label plan n) = rw (c.rows-rows.ensures.value, seen_part) at (c.in_ok-totals.ensures.totals (plan_label plan n) (omega (arith, within, ap length seen_rank))) in
-          let part_is : record { top = w.index-dirs-i.result; rank = w.index-rank-label.result; heat = w.index-total.result.now.heat; inodes = w.index-total.result.now.inodes } ≡ part_of_top rows dirs plan n = part_made rows dirs plan n w.index-dirs-i.result w.index-rank-label.result w.index-total.result.now top_is rank_is (seen ∙ counted) in
+          let top_is : w.index-dirs-i.result ≡ slice_index dirs n =
+          read dirs n w.index-dirs-i.result 0 (omega (arith, inside, c.requires.dirs)) w.index-dirs-i.is in
+          let rank_is : w.index-rank-label.result ≡ plan_rank plan (plan_label plan n) =
+          read plan.rank (plan_label plan n) w.index-rank-label.result 0 within (rw (seen_rank, label) at w.index-rank-label.is) in
+          let seen : w.index-total.result.now ≡ get_or c.in_ok-totals.totals.items (plan_label plan n) nothing =
+          read c.in_ok-totals.totals.items (plan_label plan n) w.index-total.result.now nothing place
+          (rw label at w.index-total.ensures) in
+          let counted : get_or c.in_ok-totals.totals.items (plan_label plan n) nothing
+          ≡ total_of rows (plan_label plan) (length rows) (plan_label plan n) =
+          rw (c.rows-rows.ensures.value, seen_part) at
+          (c.in_ok-totals.ensures.totals (plan_label plan n) (omega (arith, within, ap length seen_rank))) in
+          let part_is : record {
+            top = w.index-dirs-i.result;
+            rank = w.index-rank-label.result;
+            heat = w.index-total.result.now.heat;
+            inodes = w.index-total.result.now.inodes;
+          } ≡ part_of_top rows dirs plan n =
+          part_made rows dirs plan n w.index-dirs-i.result w.index-rank-label.result w.index-total.result.now top_is rank_is
+          (seen ∙ counted) in
           rw (w.parts-is, w.in_ok-push.ensures.items, c.loop-i.invariant, part_is) (sym (map_one (part_of_top rows dirs plan) test n is))
       | else-is_top w ↦
           let is : test n ≡ false = sym top ∙ w.if-is_top.false in

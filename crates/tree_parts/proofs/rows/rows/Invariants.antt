@@ -15,6 +15,7 @@ invariant-loop-number l = record {
   known : (d : ℕ) → d < l.number → slice_index_or l.known.items d false ≡ is_unpinned l.tree.entries l.pins.own d;
   places : (d : ℕ) → d < l.number → slice_index l.places.items d ≡ place_of (unpinned l.tree.entries l.pins.own) d;
   dirs : l.dirs.items ≡ filter (is_unpinned l.tree.entries l.pins.own) (below l.number);
-  rows : l.rows.items ≡ map (row_of l.tree.entries l.heat.heats l.now (unpinned l.tree.entries l.pins.own)) (filter (is_unpinned l.tree.entries l.pins.own) (below l.number));
+  rows : l.rows.items ≡ map (row_of l.tree.entries l.heat.heats l.now (unpinned l.tree.entries l.pins.own))
+      (filter (is_unpinned l.tree.entries l.pins.own) (below l.number));
   cool : All (λ row. row.heat ≤ 2 ^ 40) l.rows.items;
 }

@@ -13,5 +13,7 @@ compare_exchange-found-requires g c =
       book,
       pen.0 ∙ book,
       offer.0,
-      rw (ap (λ w. w.key) named, pen.1, offer.1, offer.3) (appends_moves c.again-seen.result.log c.args.operation.now c.self.inside.count (ap (λ s. length s.log) seen ∙ sym c.self.invariant.0)),
+      rw (ap (λ w. w.key) named, pen.1, offer.1, offer.3)
+          (appends_moves c.again-seen.result.log c.args.operation.now c.self.inside.count
+          (ap (λ s. length s.log) seen ∙ sym c.self.invariant.0)),
     )

@@ -8,7 +8,8 @@ returns-in-Set-clause-cells c before d =
 
 pub returns-in-SetOne-clause-cells : goal.returns-in-SetOne-clause-cells
 returns-in-SetOne-clause-cells c before d =
-    rw (← c.self.view_is, c.in-SetOne.is, c.from_ref.ensures.value, c.number-in-SetOne.ensures.value) (cell_set before (c.in-SetOne.dir ∷ []) c.in-SetOne.rank d)
+    rw (← c.self.view_is, c.in-SetOne.is, c.from_ref.ensures.value, c.number-in-SetOne.ensures.value)
+    (cell_set before (c.in-SetOne.dir ∷ []) c.in-SetOne.rank d)
 
 pub returns-in-Clear-clause-cells : goal.returns-in-Clear-clause-cells
 returns-in-Clear-clause-cells c before d =

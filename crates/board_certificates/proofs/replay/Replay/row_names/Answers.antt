@@ -7,7 +7,8 @@ use Rattle.board_certificates.proofs.replay.Replay.row_names.Goals as goal
 pub name-requires-clause-there : goal.name-requires-clause-there
 name-requires-clause-there c =
     let list = c.as_slice-dir-items.ensures.value ∙ c.in_ok-dirs.ensures in
-    free_there c.args.self.now.tree.entries c.args.self.now.pins.own c.loop-dir.dir-index c.dir-item.result (omega (arith, c.loop-dir-test.true, ap length list))
+    free_there c.args.self.now.tree.entries c.args.self.now.pins.own c.loop-dir.dir-index c.dir-item.result
+    (omega (arith, c.loop-dir-test.true, ap length list))
     (c.dir-item.is ∙ ap (λ (dirs : List ℕ). get_or dirs c.loop-dir.dir-index c.dir-item.result) list)
 
 pub loop-dir-preserved : goal.loop-dir-preserved

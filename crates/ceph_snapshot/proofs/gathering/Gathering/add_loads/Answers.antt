@@ -20,7 +20,8 @@ loop-fragment-preserved c =
           ∙ (append_assoc c.args.self.now.tree.seen before more
           ∙ ap (λ (hs : List PathHeat). c.args.self.now.tree.seen ++ hs) (sym (seen_more c.args.rank loads at one inside (sym c.fragment-item.is)))));
       told = λ facts was.
-          still_has c.loop-fragment.self (record (c.loop-fragment.self) { tree = c.see.new.self }) c.in_ok-see.ensures.kept refl refl refl facts (c.loop-fragment.invariant.told facts was);
+          still_has c.loop-fragment.self (record (c.loop-fragment.self) { tree = c.see.new.self }) c.in_ok-see.ensures.kept refl refl refl
+          facts (c.loop-fragment.invariant.told facts was);
       listed = c.loop-fragment.invariant.listed;
       numbered = c.loop-fragment.invariant.numbered;
     }

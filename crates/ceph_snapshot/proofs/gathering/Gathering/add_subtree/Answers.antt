@@ -6,15 +6,18 @@ use Rattle.ceph_snapshot.specs.declared.snapshot_error.SnapshotError.TheVariants
 use Rattle.ceph_snapshot.specs.declared.tree.Node.{Node}
 use Rattle.ceph_snapshot.specs.Authority.{is_user_path}
 use Rattle.ceph_snapshot.specs.Facts.{Fact, KeepNumbers, Root, StillTold}
-use Rattle.ceph_snapshot.specs.Heard.{AreClaimsIn, AreHeardAt, AreNumbersOf, IsNotedIn, heard_in, heard_in_fact, heard_in_root, tops_in, tops_in_fact, tops_in_root}
+use Rattle.ceph_snapshot.specs.Heard.{AreClaimsIn, AreHeardAt, AreNumbersOf, IsNotedIn, heard_in}
+use Rattle.ceph_snapshot.specs.Heard.{heard_in_fact, heard_in_root, tops_in, tops_in_fact, tops_in_root}
 use Rattle.ceph_snapshot.specs.Sightings.{IsNumberOf, TreeData}
-use Rattle.ceph_snapshot.proofs.Heard.{all_single, claims_kept, claims_last, claims_more, heard_kept, heard_same, numbers_kept_of, numbers_same_of, piece, still_has}
+use Rattle.ceph_snapshot.proofs.Heard.{all_single, claims_kept, claims_last, claims_more, heard_kept}
+use Rattle.ceph_snapshot.proofs.Heard.{heard_same, numbers_kept_of, numbers_same_of, piece, still_has}
 use Rattle.ceph_snapshot.proofs.gathering.Gathering.add_subtree.Goals as goal
 
 pub returns-in_default-clause-told : goal.returns-in_default-clause-told
 returns-in_default-clause-told c = λ facts before.
     let user : is_user_path c.args.root.now.path.items ≡ false = search rules in
-    rw (user, append-nil) (still_has c.args.self.now (record (c.args.self.now) { tree = c.number.new.self }) c.in_ok-directory.ensures.kept refl refl refl facts before)
+    rw (user, append-nil) (still_has c.args.self.now (record (c.args.self.now) { tree = c.number.new.self }) c.in_ok-directory.ensures.kept
+    refl refl refl facts before)
 
 pub hear-requires : goal.hear-requires
 hear-requires c =
@@ -62,15 +65,18 @@ returns-clause-told c = λ facts before.
     let second : StillTold n1 n2 = subst (λ (t : TreeData). StillTold t.nodes n2) same c.in_ok-hold_top.ensures.told in
     let third : KeepNumbers n2 n3 = c.add_root.ensures.numbers in
     let told1 : AreHeardAt c.claim.new.self.tree.nodes c.claim.new.self.hearsay.items (heard_in facts) =
-    heard_same n1 c.claim.new.self.tree.nodes c.args.self.now.hearsay.items c.claim.new.self.hearsay.items (heard_in facts) (ap (λ (t : TreeData). t.nodes) (sym c.claim.ensures.tree))
+    heard_same n1 c.claim.new.self.tree.nodes c.args.self.now.hearsay.items c.claim.new.self.hearsay.items (heard_in facts)
+    (ap (λ (t : TreeData). t.nodes) (sym c.claim.ensures.tree))
     (ap (λ h. h.items) (sym c.claim.ensures.hearsay)) (heard_kept n0 n1 c.args.self.now.hearsay.items (heard_in facts) first.numbers before.heard) in
     let told2 : AreHeardAt n1 c.hold_top.new.self.hearsay.items (heard_in facts ++ heard_in_root c.args.rank root) =
-    heard_same heard.tree.nodes n1 heard.hearsay.items c.hold_top.new.self.hearsay.items (heard_in facts ++ heard_in_root c.args.rank root) (ap (λ (t : TreeData). t.nodes) same)
+    heard_same heard.tree.nodes n1 heard.hearsay.items c.hold_top.new.self.hearsay.items (heard_in facts ++ heard_in_root c.args.rank root)
+    (ap (λ (t : TreeData). t.nodes) same)
     (ap (λ h. h.items) (sym c.hold_top.ensures.hearsay)) (c.in_ok-hear.ensures.heard (heard_in facts) told1) in
     let told3 : AreHeardAt n3 c.hold_top.new.self.hearsay.items (heard_in facts ++ heard_in_root c.args.rank root) =
     heard_kept n2 n3 c.hold_top.new.self.hearsay.items _ third (heard_kept n1 n2 c.hold_top.new.self.hearsay.items _ second.numbers told2) in
     let tops1 : AreNumbersOf heard.tree.nodes heard.tops.items (tops_in facts) =
-    numbers_same_of n1 heard.tree.nodes c.args.self.now.tops.items heard.tops.items (tops_in facts) (ap (λ (t : TreeData). t.nodes) (sym same)) (ap (λ h. h.items) (sym (c.hear.ensures.tops ∙ c.claim.ensures.tops)))
+    numbers_same_of n1 heard.tree.nodes c.args.self.now.tops.items heard.tops.items (tops_in facts)
+    (ap (λ (t : TreeData). t.nodes) (sym same)) (ap (λ h. h.items) (sym (c.hear.ensures.tops ∙ c.claim.ensures.tops)))
     (numbers_kept_of n0 n1 c.args.self.now.tops.items (tops_in facts) first.numbers before.tops) in
     let tops3 : AreNumbersOf n3 c.hold_top.new.self.tops.items (tops_in facts ++ tops_in_root root) =
     numbers_kept_of n2 n3 c.hold_top.new.self.tops.items _ third (c.in_ok-hold_top.ensures.tops (tops_in facts) tops1) in
@@ -78,7 +84,8 @@ returns-clause-told c = λ facts before.
     All-append (IsNotedIn names) facts (f ∷ []) (claims_kept c.args.self.now.fragments names facts c.in_ok-claim.ensures.kept before.claims)
     (all_single (IsNotedIn names) f (λ rank fragment claim. c.in_ok-claim.ensures.claimed fragment claim.1 claim.2 ∙ ap (λ (n : ℕ). Some n) claim.0)) in
     let only : AreClaimsIn names (facts ++ f ∷ []) = λ who fragment is.
-    ⊎_elim (λ was. claims_more facts (f ∷ []) who fragment (before.only who fragment was)) (λ by. claims_last facts f who fragment by) (c.in_ok-claim.ensures.only who fragment is) in
+    ⊎_elim (λ was. claims_more facts (f ∷ []) who fragment (before.only who fragment was)) (λ by. claims_last facts f who fragment by)
+    (c.in_ok-claim.ensures.only who fragment is) in
     rw user (record {
       told = c.add_root.ensures.told facts (second.told facts (first.told facts before.told));
       heard = subst (AreHeardAt n3 c.hold_top.new.self.hearsay.items) (sym (piece heard_in_fact facts f)) told3;

@@ -40,9 +40,11 @@ loop-root-preserved c =
       claimed = λ k d l fragment claim.
           ⊎_elim
           (λ (same : k ≡ at).
-          let is : get_or roots k d ≡ c.root-item.result = ap (λ (j : ℕ). get_or roots j d) same ∙ sym (get_or_read roots at c.root-item.result inside c.root-item.is d) in
+          let is : get_or roots k d ≡ c.root-item.result = ap (λ (j : ℕ). get_or roots j d) same
+          ∙ sym (get_or_read roots at c.root-item.result inside c.root-item.is d) in
           c.in_ok-add_subtree.ensures.claimed fragment (subst (λ (root : SubtreeRoot). IsClaim root fragment) is claim))
-          (λ (other : k ≢ at). c.in_ok-add_subtree.ensures.kept fragment c.args.rank (c.loop-root.invariant.claimed k d (omega (arith, other, l)) fragment claim))
+          (λ (other : k ≢ at). c.in_ok-add_subtree.ensures.kept fragment c.args.rank
+          (c.loop-root.invariant.claimed k d (omega (arith, other, l)) fragment claim))
           (cases_eq k at);
       kept = λ fragment other before. c.in_ok-add_subtree.ensures.kept fragment other (c.loop-root.invariant.kept fragment other before);
       seen = c.add_subtree.ensures.seen ∙ c.loop-root.invariant.seen;

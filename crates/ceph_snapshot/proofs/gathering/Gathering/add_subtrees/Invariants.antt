@@ -8,7 +8,8 @@ use Rattle.ceph_snapshot.proofs.gathering.Gathering.add_subtrees.Given as goal
 
 abbrev pub invariant-loop-root : goal.invariant-loop-root
 invariant-loop-root l = record {
-  claimed : (k : ℕ) (d : SubtreeRoot) → k < l.root-index → (fragment : List ℕ) → IsClaim (get_or l.roots k d) fragment → path_number l.self.fragments fragment ≡ Some l.rank;
+  claimed : (k : ℕ) (d : SubtreeRoot) → k < l.root-index → (fragment : List ℕ) → IsClaim (get_or l.roots k d) fragment
+      → path_number l.self.fragments fragment ≡ Some l.rank;
   kept : StillClaimed l.fn.self.fragments l.self.fragments;
   seen : l.self.tree.seen ≡ l.fn.self.tree.seen;
   told : (facts : List Fact) → HasTold l.fn.self facts → HasTold l.self (facts ++ roots_in l.rank (take l.root-index l.roots));

@@ -16,7 +16,8 @@ loop-listed-preserved c =
       claims = c.add_value.ensures.claims ∙ c.loop-listed.invariant.claims;
       seen = c.add_value.ensures.seen ∙ c.loop-listed.invariant.seen;
       told = λ facts before.
-          subst (HasTold c.add_value.new.self) (filtered_more Value (λ dir. is_user_path dir.path.items) facts listing at c.listed-item.result inside c.listed-item.is)
+          subst (HasTold c.add_value.new.self)
+          (filtered_more Value (λ dir. is_user_path dir.path.items) facts listing at c.listed-item.result inside c.listed-item.is)
           (c.in_ok-add_value.ensures.told (facts ++ values_in (take at listing)) (c.loop-listed.invariant.told facts before));
       listed = c.add_value.ensures.listed ∙ c.loop-listed.invariant.listed;
       numbered = c.add_value.ensures.numbered ∙ c.loop-listed.invariant.numbered;

@@ -14,6 +14,8 @@ returns-clause-heard c = λ heard was.
     let one : HeardRank = record { path = path; by = c.args.rank; authority = c.in-Ok.authority } in
     let authority : c.args.root.now.authority ≡ pos c.in-Ok.authority = search rules in
     let more : heard_in_root c.args.rank c.args.root.now ≡ one ∷ [] =
-    ap (λ (b : Bool). cond b [] (authority_heard path c.args.rank c.args.root.now.authority)) c.if-root.false ∙ ap (authority_heard path c.args.rank) authority in
+    ap (λ (b : Bool). cond b [] (authority_heard path c.args.rank c.args.root.now.authority)) c.if-root.false
+    ∙ ap (authority_heard path c.args.rank) authority in
     subst (λ (hs : List Hearsay). AreHeardAt nodes hs (heard ++ heard_in_root c.args.rank c.args.root.now)) (sym c.in_ok-push.ensures.items)
-    (subst (λ (those : List HeardRank). AreHeardAt nodes (before ++ said ∷ []) (heard ++ those)) (sym more) (heard_push nodes before said heard path c.requires was))
+    (subst (λ (those : List HeardRank). AreHeardAt nodes (before ++ said ∷ []) (heard ++ those)) (sym more)
+    (heard_push nodes before said heard path c.requires was))

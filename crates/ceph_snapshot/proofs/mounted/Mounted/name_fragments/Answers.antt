@@ -21,7 +21,8 @@ loop-at-preserved c =
     c.in_ok-name_fragment.ensures rank ∙ ap (λ (f : FragmentHeat). mounted_heat c.args.self.now (of_fragment rank f)) (sym c.index-fragments-at.is) in
     record {
       named = λ rank i l.
-          named_more (of_fragment rank) (λ f. mounted_heat c.args.self.now (of_fragment rank f)) start cur at old new inside read (named rank) (c.loop-at.invariant.named rank) i l;
+          named_more (of_fragment rank) (λ f. mounted_heat c.args.self.now (of_fragment rank f)) start cur at old new inside read
+          (named rank) (c.loop-at.invariant.named rank) i l;
       rest = λ i later.
           let apart : i ≢ at = λ same. absurd (omega (arith, later, same)) in
           at-other cur at i new apart ∙ c.loop-at.invariant.rest i (omega (arith, later));
@@ -29,4 +30,5 @@ loop-at-preserved c =
 
 pub returns : goal.returns
 returns c = λ rank i.
-    all_named (of_fragment rank) (λ f. mounted_heat c.args.self.now (of_fragment rank f)) c.args.fragments.now c.loop-at.fragments c.loop-at.at (omega (arith, c.loop-at-test.false)) (c.loop-at.invariant.named rank) c.loop-at.invariant.rest i
+    all_named (of_fragment rank) (λ f. mounted_heat c.args.self.now (of_fragment rank f)) c.args.fragments.now c.loop-at.fragments
+    c.loop-at.at (omega (arith, c.loop-at-test.false)) (c.loop-at.invariant.named rank) c.loop-at.invariant.rest i

@@ -12,4 +12,5 @@ invariant_of-result c =
     let root : Node = c.unknown.result in
     let cold : account_of root.directory ≡ ([], (0, (0, None))) = c.unknown.ensures.account ∙ ap (λ (p : List ℕ). (p, (0, (0, None)))) c.new-2.ensures.items in
     subst (λ (nodes : List Node). IsNumbered names nodes c.new-3.result.items) (sym c.in_ok-vec.ensures.items)
-    (subst (λ (ss : List Sighting). IsNumbered names (root ∷ []) ss) (sym c.new-3.ensures.items) (numbered_root names root c.in_ok-new.ensures cold c.unknown.ensures.parent))
+    (subst (λ (ss : List Sighting). IsNumbered names (root ∷ []) ss) (sym c.new-3.ensures.items)
+    (numbered_root names root c.in_ok-new.ensures cold c.unknown.ensures.parent))

@@ -16,7 +16,8 @@ returns-in-Some-clause-path c =
 pub nearest-from-requires : goal.nearest-from-requires
 nearest-from-requires c =
     let t = c.self.inside in
-    begins_with_slash t.names t.nodes.items t.sightings.items c.args.path.now c.self.invariant (search rules) (λ is. none-some 0 (sym c.in_default.is ∙ (c.number.ensures ∙ is)))
+    begins_with_slash t.names t.nodes.items t.sightings.items c.args.path.now c.self.invariant (search rules)
+    (λ is. none-some 0 (sym c.in_default.is ∙ (c.number.ensures ∙ is)))
 
 pub loop-end-preserved : goal.loop-end-preserved
 loop-end-preserved c =
@@ -25,15 +26,21 @@ loop-end-preserved c =
     elim c.if-path-end-eq47.branch [
       | then-path-end-eq47+in_ok-number w ↦ record {
         seen = rw (w.self-is) (w.number_below.ensures.seen ∙ c.loop-end.invariant.seen);
-        kept = rw (w.self-is) (still_both c.args.self.now.nodes c.loop-end.self.nodes w.number_below.new.self.nodes c.loop-end.invariant.kept w.in_ok-number.ensures.kept);
-        above = rw (w.self-is, w.number-is) (parent_at_slash w.number_below.new.self.nodes path end w.in_ok-number.number c.loop-end-test.true w.if-path-end-eq47.true w.in_ok-number.ensures.path);
+        kept = rw (w.self-is) (still_both c.args.self.now.nodes c.loop-end.self.nodes w.number_below.new.self.nodes
+            c.loop-end.invariant.kept w.in_ok-number.ensures.kept);
+        above = rw (w.self-is, w.number-is)
+            (parent_at_slash w.number_below.new.self.nodes path end w.in_ok-number.number c.loop-end-test.true w.if-path-end-eq47.true
+            w.in_ok-number.ensures.path);
       }
       | else-path-end-eq47 w ↦ record {
         seen = rw (w.self-is) c.loop-end.invariant.seen;
         kept = rw (w.self-is) c.loop-end.invariant.kept;
-        above = rw (w.self-is, w.number-is) (parent_longer c.loop-end.self.nodes path end c.loop-end.number c.loop-end-test.true w.if-path-end-eq47.false c.loop-end.invariant.above);
+        above = rw (w.self-is, w.number-is)
+            (parent_longer c.loop-end.self.nodes path end c.loop-end.number c.loop-end-test.true w.if-path-end-eq47.false
+            c.loop-end.invariant.above);
       }
     ]
 
 pub returns-clause-kept : goal.returns-clause-kept
-returns-clause-kept c = still_both c.args.self.now.nodes c.loop-end.self.nodes c.number_below-2.new.self.nodes c.loop-end.invariant.kept c.in_ok-number_below.ensures.kept
+returns-clause-kept c = still_both c.args.self.now.nodes c.loop-end.self.nodes c.number_below-2.new.self.nodes c.loop-end.invariant.kept
+    c.in_ok-number_below.ensures.kept

@@ -21,12 +21,16 @@ invariant_of-self-2 c =
     let t = c.self.inside in
     let node : Node = c.unknown-node.result in
     let path : List ℕ = c.args.path.now in
-    let items : c.push_reserved.new.self.items ≡ t.nodes.items ++ node ∷ [] = c.push_reserved.ensures.items ∙ ap (λ (ns : List Node). ns ++ node ∷ []) c.reserve.ensures.items in
+    let items : c.push_reserved.new.self.items ≡ t.nodes.items ++ node ∷ [] = c.push_reserved.ensures.items
+    ∙ ap (λ (ns : List Node). ns ++ node ∷ []) c.reserve.ensures.items in
     let fresh : path_number t.names path ≡ None = search rules in
     let put : (p : List ℕ) → path_number c.insert.new.self p ≡ cond (bytes_eq path p) (Some c.in-Ok.number) (path_number t.names p) =
-    subst (λ (q : List ℕ). (p : List ℕ) → path_number c.insert.new.self p ≡ cond (bytes_eq q p) (Some c.in-Ok.number) (path_number t.names p)) c.in_ok-from_slice-2.ensures.items c.in_ok-insert.ensures.put in
+    subst (λ (q : List ℕ). (p : List ℕ) → path_number c.insert.new.self p
+    ≡ cond (bytes_eq q p) (Some c.in-Ok.number) (path_number t.names p)) c.in_ok-from_slice-2.ensures.items
+    c.in_ok-insert.ensures.put in
     let is : c.in-Ok.number ≡ length t.nodes.items = search rules in
-    let cold : account_of node.directory ≡ (path, (0, (0, None))) = c.unknown-node.ensures.account ∙ ap (λ (p : List ℕ). (p, (0, (0, None)))) c.in_ok-from_slice.ensures.items in
+    let cold : account_of node.directory ≡ (path, (0, (0, None))) = c.unknown-node.ensures.account
+    ∙ ap (λ (p : List ℕ). (p, (0, (0, None)))) c.in_ok-from_slice.ensures.items in
     let below : IsParentOf t.nodes.items path c.args.parent = subst (λ (v : TreeData). IsParentOf v.nodes path c.args.parent) (sym c.self.view_is) c.requires in
     let lies : IsParentOf t.nodes.items node.directory.path.items node.directory.parent =
     subst (λ (p : List ℕ). IsParentOf t.nodes.items p node.directory.parent) (sym (ap (λ (a : Account). a.0) cold))
@@ -38,7 +42,8 @@ pub returns-clause-seen : goal.returns-clause-seen
 returns-clause-seen c =
     let t = c.self.inside in
     let node : Node = c.unknown-node.result in
-    let items : c.push_reserved.new.self.items ≡ t.nodes.items ++ node ∷ [] = c.push_reserved.ensures.items ∙ ap (λ (ns : List Node). ns ++ node ∷ []) c.reserve.ensures.items in
+    let items : c.push_reserved.new.self.items ≡ t.nodes.items ++ node ∷ [] = c.push_reserved.ensures.items
+    ∙ ap (λ (ns : List Node). ns ++ node ∷ []) c.reserve.ensures.items in
     ap (λ (ns : List Node). map (with_path ns) t.sightings.items) items
     ∙ (seen_same t.nodes.items (t.nodes.items ++ node ∷ []) t.sightings.items (account_more t.nodes.items node) c.self.invariant.inside
     ∙ ap (λ (v : TreeData). v.seen) c.self.view_is)
@@ -47,17 +52,21 @@ pub returns-clause-path : goal.returns-clause-path
 returns-clause-path c =
     let t = c.self.inside in
     let path : List ℕ = c.args.path.now in
-    let put : path_number c.insert.new.self path ≡ cond (bytes_eq c.in_ok-from_slice-2.field-0.items path) (Some c.in-Ok.number) (path_number t.names path) = c.in_ok-insert.ensures.put path in
+    let put : path_number c.insert.new.self path ≡ cond (bytes_eq c.in_ok-from_slice-2.field-0.items path) (Some c.in-Ok.number)
+    (path_number t.names path) = c.in_ok-insert.ensures.put path in
     at_number c.insert.new.self c.push_reserved.new.self.items t.sightings.items path c.in-Ok.number (invariant_of-self-2 c)
-    (put ∙ cond-true (bytes_eq c.in_ok-from_slice-2.field-0.items path) (Some c.in-Ok.number) (path_number t.names path) ((bytes_eq-Decides c.in_ok-from_slice-2.field-0.items path).1 c.in_ok-from_slice-2.ensures.items))
+    (put ∙ cond-true (bytes_eq c.in_ok-from_slice-2.field-0.items path) (Some c.in-Ok.number) (path_number t.names path)
+    ((bytes_eq-Decides c.in_ok-from_slice-2.field-0.items path).1 c.in_ok-from_slice-2.ensures.items))
 
 pub returns-clause-kept : goal.returns-clause-kept
 returns-clause-kept c =
     let t = c.self.inside in
     let node : Node = c.unknown-node.result in
     let path : List ℕ = c.args.path.now in
-    let items : c.push_reserved.new.self.items ≡ t.nodes.items ++ node ∷ [] = c.push_reserved.ensures.items ∙ ap (λ (ns : List Node). ns ++ node ∷ []) c.reserve.ensures.items in
+    let items : c.push_reserved.new.self.items ≡ t.nodes.items ++ node ∷ [] = c.push_reserved.ensures.items
+    ∙ ap (λ (ns : List Node). ns ++ node ∷ []) c.reserve.ensures.items in
     let fresh : path_number t.names path ≡ None = search rules in
     let is : node.directory.path.items ≡ path = ap (λ (t : Account). t.0) c.unknown-node.ensures.account ∙ c.in_ok-from_slice.ensures.items in
     subst (λ (ns : List Node). StillTold ns c.push_reserved.new.self.items) (ap (λ (v : TreeData). v.nodes) c.self.view_is)
-    (subst (StillTold t.nodes.items) (sym items) (still_more t.names t.nodes.items node path t.sightings.items fresh is c.unknown-node.ensures.told c.self.invariant))
+    (subst (StillTold t.nodes.items) (sym items)
+    (still_more t.names t.nodes.items node path t.sightings.items fresh is c.unknown-node.ensures.told c.self.invariant))

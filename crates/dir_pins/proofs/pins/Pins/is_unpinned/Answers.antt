@@ -15,5 +15,7 @@ returns-else-eq c =
     let row : IsRow es d c.in-Some.row = is_row es d c.in-Some.row c.in-Some.ensures.row in
     let some : 0 < d = grind (arith, common_steps, c.if-eq.ensures) in
     let none : c.index.result.now ≡ None = no_some c.index.result.now (sym c.if-is_some.ensures) in
-    let free : own_pin own d ≡ None = own_at own c.self.inside.own.items d c.number.result c.index.result.now view c.number.ensures (omega (arith, c.in-Some.ensures.below, c.requires.room)) c.index.ensures ∙ none in
-    rw (c.number-else-eq.ensures, ← row.parent) (c.requires.below (parent_of es d) (above es d c.in-Some.ensures.tree some) ∙ unpinned_by_parent es own d c.in-Some.ensures.tree some row.there free)
+    let free : own_pin own d ≡ None = own_at own c.self.inside.own.items d c.number.result c.index.result.now view c.number.ensures
+    (omega (arith, c.in-Some.ensures.below, c.requires.room)) c.index.ensures ∙ none in
+    rw (c.number-else-eq.ensures, ← row.parent) (c.requires.below (parent_of es d) (above es d c.in-Some.ensures.tree some)
+    ∙ unpinned_by_parent es own d c.in-Some.ensures.tree some row.there free)

@@ -9,7 +9,8 @@ loop-number-preserved c =
     let es : List (Option Entry) = c.args.tree.now.entries in
     let own : List (Option ℕ) = c.args.self.now.own in
     let n : ℕ = c.loop-number.number in
-    let inside : n < length c.loop-number.known.items = omega (arith, c.loop-number.invariant.size, c.loop-number-test.true, c.numbers-number-end.ensures.value) in
+    let inside : n < length c.loop-number.known.items =
+    omega (arith, c.loop-number.invariant.size, c.loop-number-test.true, c.numbers-number-end.ensures.value) in
     let found : c.is_unpinned-is_free.result ≡ is_unpinned es own n = c.is_unpinned-is_free.ensures ∙ rw c.new.ensures refl in
     record {
       size = simp length-set c.loop-number.invariant.size;

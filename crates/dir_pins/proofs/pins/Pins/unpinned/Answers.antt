@@ -14,8 +14,10 @@ loop-number-preserved c =
     let marks : List Bool = c.in_ok-marks.marks.items in
     let inside : n < length es = omega (arith, c.loop-number-test.true, c.numbers-number-end.ensures.value) in
     let within : n < length marks = omega (arith, inside, c.in_ok-marks.ensures.size) in
-    let found : c.index.result.now ≡ is_unpinned es own n = read_mark marks n c.index.result.now within c.index.ensures ∙ c.in_ok-marks.ensures.unpinned n inside in
-    let more : filter (is_unpinned es own) (below (n + 1)) ≡ filter (is_unpinned es own) (below n) ++ cond (is_unpinned es own n) (n ∷ []) [] = below_more (is_unpinned es own) n in
+    let found : c.index.result.now ≡ is_unpinned es own n = read_mark marks n c.index.result.now within c.index.ensures
+    ∙ c.in_ok-marks.ensures.unpinned n inside in
+    let more : filter (is_unpinned es own) (below (n + 1)) ≡ filter (is_unpinned es own) (below n)
+    ++ cond (is_unpinned es own n) (n ∷ []) [] = below_more (is_unpinned es own) n in
     record {
       end = omega (arith, inside);
       dirs = elim c.if-index.branch [

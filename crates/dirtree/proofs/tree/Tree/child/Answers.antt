@@ -14,18 +14,22 @@ child_in_chain-requires c = record {
 
 pub returns-in-Some-clause-below : goal.returns-in-Some-clause-below
 returns-in-Some-clause-below c =
-    let is : child_of (entries_of c.self.inside.nodes.items) c.args.parent c.args.name.now ≡ Some c.in-Some.child = rw (c.deref.ensures.value, c.number.ensures) at (sym c.in-Some.ensures) in
-    let child : IsFound (entries_of c.self.inside.nodes.items) c.args.name.now c.in-Some.child = found (entries_of c.self.inside.nodes.items) c.args.parent c.in-Some.child c.args.name.now c.self.invariant.tree is in
+    let is : child_of (entries_of c.self.inside.nodes.items) c.args.parent c.args.name.now
+    ≡ Some c.in-Some.child = rw (c.deref.ensures.value, c.number.ensures) at (sym c.in-Some.ensures) in
+    let child : IsFound (entries_of c.self.inside.nodes.items) c.args.name.now c.in-Some.child =
+    found (entries_of c.self.inside.nodes.items) c.args.parent c.in-Some.child c.args.name.now c.self.invariant.tree is in
     let view : c.self.inside.limit ≡ c.args.self.now.limit = ap (λ (t : Directories). t.limit) c.self.view_is in
     omega (arith, child.inside, length-entries c.self.inside.nodes.items, c.self.invariant.within, view, c.new.ensures)
 
 pub returns-in-Some-clause-there : goal.returns-in-Some-clause-there
 returns-in-Some-clause-there c =
-    let is : child_of (entries_of c.self.inside.nodes.items) c.args.parent c.args.name.now ≡ Some c.in-Some.child = rw (c.deref.ensures.value, c.number.ensures) at (sym c.in-Some.ensures) in
+    let is : child_of (entries_of c.self.inside.nodes.items) c.args.parent c.args.name.now
+    ≡ Some c.in-Some.child = rw (c.deref.ensures.value, c.number.ensures) at (sym c.in-Some.ensures) in
     let view : entries_of c.self.inside.nodes.items ≡ c.args.self.now.entries = ap (λ (t : Directories). t.entries) c.self.view_is in
     rw (c.new.ensures, ← view) (found (entries_of c.self.inside.nodes.items) c.args.parent c.in-Some.child c.args.name.now c.self.invariant.tree is).there
 
 pub returns-in-Some-clause-named : goal.returns-in-Some-clause-named
 returns-in-Some-clause-named c =
-    let is : child_of (entries_of c.self.inside.nodes.items) c.args.parent c.args.name.now ≡ Some c.in-Some.child = rw (c.deref.ensures.value, c.number.ensures) at (sym c.in-Some.ensures) in
+    let is : child_of (entries_of c.self.inside.nodes.items) c.args.parent c.args.name.now
+    ≡ Some c.in-Some.child = rw (c.deref.ensures.value, c.number.ensures) at (sym c.in-Some.ensures) in
     (found (entries_of c.self.inside.nodes.items) c.args.parent c.in-Some.child c.args.name.now c.self.invariant.tree is).named

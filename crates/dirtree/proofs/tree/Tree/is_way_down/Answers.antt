@@ -21,9 +21,12 @@ returns-in_default-before_name c =
     let es : List (Option Entry) = c.args.self.now.entries in
     let some : 0 < c.loop-at.at = grind (arith, common_steps, c.loop-at-test.ensures) in
     let entry : entry_at es c.loop-at.at ≡ Some (entry_of c.in-Some.node.now) = sym c.in-Some.ensures.value in
-    let read : (parent_of es c.loop-at.at ≡ c.in-Some.node.now.parent) × (name_of es c.loop-at.at ≡ c.in-Some.node.now.name) = read_node es c.loop-at.at (entry_of c.in-Some.node.now) entry in
+    let read : (parent_of es c.loop-at.at ≡ c.in-Some.node.now.parent)
+    × (name_of es c.loop-at.at ≡ c.in-Some.node.now.name) = read_node es c.loop-at.at (entry_of c.in-Some.node.now) entry in
     let name : c.as_bytes.result.now ≡ name_of es c.loop-at.at = c.as_bytes.ensures.value ∙ c.as_str.ensures ∙ sym read.1 in
-    let other : (front : List ℕ) → c.loop-at.rest.now ≢ front ++ 47 ∷ name_of es c.loop-at.at = λ front h. c.in_default-before_name.ensures front (h ∙ ap (λ (last : List ℕ). front ++ 47 ∷ last) (sym name)) in
+    let other : (front : List ℕ) → c.loop-at.rest.now ≢ front
+    ++ 47 ∷ name_of es c.loop-at.at = λ front h. c.in_default-before_name.ensures front
+    (h ∙ ap (λ (last : List ℕ). front ++ 47 ∷ last) (sym name)) in
     (λ no. absurd (false≢true no), λ h. absurd (no_way es c.loop-at.at c.loop-at.rest.now c.in-Some.ensures.tree some other (c.loop-at.invariant.same.0 h)))
 
 pub loop-at-preserved : goal.loop-at-preserved
@@ -31,10 +34,14 @@ loop-at-preserved c =
     let es : List (Option Entry) = c.args.self.now.entries in
     let some : 0 < c.loop-at.at = grind (arith, common_steps, c.loop-at-test.ensures) in
     let entry : entry_at es c.loop-at.at ≡ Some (entry_of c.in-Some.node.now) = sym c.in-Some.ensures.value in
-    let read : (parent_of es c.loop-at.at ≡ c.in-Some.node.now.parent) × (name_of es c.loop-at.at ≡ c.in-Some.node.now.name) = read_node es c.loop-at.at (entry_of c.in-Some.node.now) entry in
+    let read : (parent_of es c.loop-at.at ≡ c.in-Some.node.now.parent)
+    × (name_of es c.loop-at.at ≡ c.in-Some.node.now.name) = read_node es c.loop-at.at (entry_of c.in-Some.node.now) entry in
     let name : c.as_bytes.result.now ≡ name_of es c.loop-at.at = c.as_bytes.ensures.value ∙ c.as_str.ensures ∙ sym read.1 in
-    let ends : c.loop-at.rest.now ≡ c.in-Some-before_name.above.now ++ 47 ∷ name_of es c.loop-at.at = c.in-Some-before_name.ensures ∙ ap (λ (last : List ℕ). c.in-Some-before_name.above.now ++ 47 ∷ last) name in
-    let step : (c.loop-at.rest.now ≡ way_down es c.loop-at.at) ↔ (c.in-Some-before_name.above.now ≡ way_down es c.in-Some.node.now.parent) = rw read.0 at (one_up es c.loop-at.at c.loop-at.rest.now c.in-Some-before_name.above.now c.in-Some.ensures.tree some ends) in
+    let ends : c.loop-at.rest.now ≡ c.in-Some-before_name.above.now ++ 47 ∷ name_of es c.loop-at.at = c.in-Some-before_name.ensures
+    ∙ ap (λ (last : List ℕ). c.in-Some-before_name.above.now ++ 47 ∷ last) name in
+    let step : (c.loop-at.rest.now ≡ way_down es c.loop-at.at)
+    ↔ (c.in-Some-before_name.above.now ≡ way_down es c.in-Some.node.now.parent) =
+    rw read.0 at (one_up es c.loop-at.at c.loop-at.rest.now c.in-Some-before_name.above.now c.in-Some.ensures.tree some ends) in
     record {
       there = rw c.new-at.ensures c.in-Some.ensures.parent;
       same = rw c.new-at.ensures (λ h. step.0 (c.loop-at.invariant.same.0 h), λ h. c.loop-at.invariant.same.1 (step.1 h));

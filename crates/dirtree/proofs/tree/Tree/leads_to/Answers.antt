@@ -9,8 +9,11 @@ use Rattle.dirtree.proofs.tree.Tree.leads_to.Goals as goal
 
 pub returns-then-not-contains-clause-leads : goal.returns-then-not-contains-clause-leads
 returns-then-not-contains-clause-leads c =
-    let gone : is_there c.args.self.now.entries c.args.dir ≡ false = grind (arith, common_steps) in
-    (λ no. absurd (false≢true no), λ h. absurd (false≢true (sym gone ∙ ((path_leads c.args.self.now.entries c.args.path.now c.args.dir c.numbers.ensures.tree).0 h).0)))
+    let gone : is_there c.args.self.now.entries c.args.dir ≡ false = grind (arith, common_steps) in (
+      λ no. absurd (false≢true no),
+      λ h. absurd (false≢true (sym gone
+          ∙ ((path_leads c.args.self.now.entries c.args.path.now c.args.dir c.numbers.ensures.tree).0 h).0)),
+    )
 
 pub returns-then-eq-clause-leads : goal.returns-then-eq-clause-leads
 returns-then-eq-clause-leads c =

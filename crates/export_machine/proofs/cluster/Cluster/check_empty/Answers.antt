@@ -8,4 +8,5 @@ pub returns : goal.returns
 returns c =
     let parents = c.args.self.now.world.parents in
     c.refuse_if.ensures.cause
-    ∙ ap (λ b. when b NotEmpty) (ap (λ n. not (eqb n 0)) c.children.ensures ∙ any_counts (is_child c.args.dir) parents (any_at (is_child c.args.dir) parents) refl)
+    ∙ ap (λ b. when b NotEmpty) (ap (λ n. not (eqb n 0)) c.children.ensures
+    ∙ any_counts (is_child c.args.dir) parents (any_at (is_child c.args.dir) parents) refl)

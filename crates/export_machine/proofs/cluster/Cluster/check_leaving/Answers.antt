@@ -9,7 +9,8 @@ loop-dir-init c = least_start c.args.self.now.world c.args.from
 pub loop-dir-preserved : goal.loop-dir-preserved
 loop-dir-preserved c =
     let near : c.loop-dir.dir-index < length c.args.dirs.now = omega arith in
-    least_next c.args.self.now.world c.args.from c.args.dirs.now c.loop-dir.dir-index c.dir-item.result c.loop-dir.least c.least_faulty-least.result near c.dir-item.is c.loop-dir.invariant
+    least_next c.args.self.now.world c.args.from c.args.dirs.now c.loop-dir.dir-index c.dir-item.result c.loop-dir.least
+    c.least_faulty-least.result near c.dir-item.is c.loop-dir.invariant
     c.least_faulty-least.ensures.free c.least_faulty-least.ensures.faulty
 
 pub returns-in-Some : goal.returns-in-Some

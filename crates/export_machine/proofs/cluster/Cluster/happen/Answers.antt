@@ -23,11 +23,13 @@ overflow_add-self c =
 
 pub invariant_of-self : goal.invariant_of-self
 invariant_of-self c =
-    kept_step c.self.inside.records c.happen-reply.new.self (c.args.event) c.happen-reply.result c.self.invariant (rw (← c.self.view_is) at c.requires.accepted) c.happen-reply.ensures.effect c.happen-reply.ensures.indexed
+    kept_step c.self.inside.records c.happen-reply.new.self (c.args.event) c.happen-reply.result c.self.invariant
+    (rw (← c.self.view_is) at c.requires.accepted) c.happen-reply.ensures.effect c.happen-reply.ensures.indexed
 
 pub returns-clause-step : goal.returns-clause-step
 returns-clause-step c =
-    rw (← c.self.view_is) (stepped c.self.inside.records c.happen-reply.new.self (c.args.event) c.happen-reply.result c.self.invariant (rw (← c.self.view_is) at c.requires.accepted) c.happen-reply.ensures.effect c.happen-reply.ensures.indexed)
+    rw (← c.self.view_is) (stepped c.self.inside.records c.happen-reply.new.self (c.args.event) c.happen-reply.result c.self.invariant
+    (rw (← c.self.view_is) at c.requires.accepted) c.happen-reply.ensures.effect c.happen-reply.ensures.indexed)
 
 pub returns-clause-promised : goal.returns-clause-promised
 returns-clause-promised c = reached_promised _ (invariant_of-self c).reached

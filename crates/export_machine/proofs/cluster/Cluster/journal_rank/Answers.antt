@@ -29,10 +29,12 @@ pub from-requires : goal.from-requires
 from-requires c = notify_order (world_of c.self.inside.records) c.in-Notify.export (accepted_as c.self.inside.records c.self.view_is c.in-Notify.is c.requires)
 
 pub returns-in-Made-clause-near : goal.returns-in-Made-clause-near
-returns-in-Made-clause-near c = owner_near c.args.self.now.world (reached_as _ _ c.self.invariant c.self.view_is) c.in-Made.parent c.authority.result c.authority.ensures
+returns-in-Made-clause-near c = owner_near c.args.self.now.world (reached_as _ _ c.self.invariant c.self.view_is) c.in-Made.parent
+    c.authority.result c.authority.ensures
 
 pub returns-in-Gone-clause-near : goal.returns-in-Gone-clause-near
-returns-in-Gone-clause-near c = owner_near c.args.self.now.world (reached_as _ _ c.self.invariant c.self.view_is) c.in-Gone.dir c.authority-in-Gone.result c.authority-in-Gone.ensures
+returns-in-Gone-clause-near c = owner_near c.args.self.now.world (reached_as _ _ c.self.invariant c.self.view_is) c.in-Gone.dir
+    c.authority-in-Gone.result c.authority-in-Gone.ensures
 
 pub returns-in-Deliver-clause-rank : goal.returns-in-Deliver-clause-rank
 unfolding entered_at

@@ -16,14 +16,16 @@ pub logs-requires : goal.logs-requires
 logs-requires c =
     let r = c.self.inside.records in
     let accepted = accepted_as r c.self.view_is c.in-Deliver.is c.requires.accepted in
-    sent_order (world_of r) c.self.invariant.reached c.in-Deliver.message c.index.result.now (sent_at (world_of r) c.in-Deliver.message c.index.result.now accepted c.index.ensures)
+    sent_order (world_of r) c.self.invariant.reached c.in-Deliver.message c.index.result.now
+    (sent_at (world_of r) c.in-Deliver.message c.index.result.now accepted c.index.ensures)
 
 pub returns-in-Deliver : goal.returns-in-Deliver
 returns-in-Deliver c =
     let r = c.self.inside.records in
     let accepted = accepted_as r c.self.view_is c.in-Deliver.is c.requires.accepted in
     rw (← c.self.view_is, c.in-Deliver.is)
-    (c.logs.ensures ∙ sym (delivered_logs (world_of r) c.in-Deliver.message c.index.result.now accepted (sent_at (world_of r) c.in-Deliver.message c.index.result.now accepted c.index.ensures)))
+    (c.logs.ensures ∙ sym (delivered_logs (world_of r) c.in-Deliver.message c.index.result.now accepted
+    (sent_at (world_of r) c.in-Deliver.message c.index.result.now accepted c.index.ensures)))
 
 pub returns-in_default : goal.returns-in_default
 returns-in_default c = other_event c.args.self.now.world c.args.event.now c.in_default.not-Deliver

@@ -35,13 +35,15 @@ returns-in_err-grow_entry-clause-spare c =
 
 pub invariant_of-self-2 : goal.invariant_of-self-2
 invariant_of-self-2 c =
-    kept_same c.self.inside.records c.grow_lists.new.self (c.grow_lists.ensures.world ∙ c.grow_entry.ensures.world) (c.grow_lists.ensures.indexes ∙ c.grow_entry.ensures.indexes) c.self.invariant
+    kept_same c.self.inside.records c.grow_lists.new.self (c.grow_lists.ensures.world ∙ c.grow_entry.ensures.world)
+    (c.grow_lists.ensures.indexes ∙ c.grow_entry.ensures.indexes) c.self.invariant
 
 pub returns-clause-room : goal.returns-clause-room
 returns-clause-room c =
     let e = c.args.event.now in
     let rank = rw (← c.self.view_is) at c.journal_rank-rank.ensures.rank in
-    on_ok c.grow_lists.result (λ l. ready_is c.grow_lists.new.self (e) ∙ grown_room c.self.inside.records c.grow_entry.new.self c.grow_lists.new.self (e) c.journal_rank-rank.result rank
+    on_ok c.grow_lists.result (λ l. ready_is c.grow_lists.new.self (e)
+    ∙ grown_room c.self.inside.records c.grow_entry.new.self c.grow_lists.new.self (e) c.journal_rank-rank.result rank
     (c.grow_lists.ensures.world ∙ c.grow_entry.ensures.world) c.grow_lists.ensures.spare c.in_ok-grow_entry.ensures.room l) c.grow_lists.ensures.room
 
 pub returns-clause-ready : goal.returns-clause-ready

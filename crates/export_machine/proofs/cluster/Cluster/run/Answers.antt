@@ -10,7 +10,8 @@ loop-event-preserved c =
     let near : c.loop-event.event-index < length c.args.events.now = omega arith in
     record {
       answered = rw (take_next c.args.events.now c.loop-event.event-index c.event-item.result near c.event-item.is, c.push_reserved.ensures.items)
-          (answers_next c.args.self.now.world c.loop-event.self.world c.apply_copy.new.self.world ((take c.loop-event.event-index c.args.events.now)) c.loop-event.answers.items
+          (answers_next c.args.self.now.world c.loop-event.self.world c.apply_copy.new.self.world
+          ((take c.loop-event.event-index c.args.events.now)) c.loop-event.answers.items
           (c.event-item.result) c.apply_copy.result c.loop-event.invariant.answered c.apply_copy.ensures);
       promised = c.promised-in-loop-event.ensures;
       count = omega arith;

@@ -19,7 +19,8 @@ receiver-requires c =
 
 pub returns-in-Some : goal.returns-in-Some
 returns-in-Some c =
-    let sent = found c.self.inside.records.sent.items c.deref.result.now c.args.message c.in-Some.message.now c.deref.ensures.value c.in-Some.ensures.lookup.0 c.in-Some.ensures.lookup.1 in
+    let sent = found c.self.inside.records.sent.items c.deref.result.now c.args.message c.in-Some.message.now c.deref.ensures.value
+    c.in-Some.ensures.lookup.0 c.in-Some.ensures.lookup.1 in
     rw (← c.self.view_is, sent, c.export.ensures, c.receiver.ensures) refl
 
 pub returns-in-None : goal.returns-in-None

@@ -10,7 +10,8 @@ pub set_named-requires : goal.set_named-requires
 set_named-requires c =
     let near : c.loop-dir.dir-index < length c.args.dirs.now = omega arith in
     record {
-      near = mark_near c.args.self.now.named c.loop-dir.self.named (Some c.args.rank) c.args.dirs.now c.loop-dir.dir-index c.dir-item.result near c.dir-item.is c.requires.near (ap (λ (t : DirColumns). t.named) c.loop-dir.invariant);
+      near = mark_near c.args.self.now.named c.loop-dir.self.named (Some c.args.rank) c.args.dirs.now c.loop-dir.dir-index c.dir-item.result
+          near c.dir-item.is c.requires.near (ap (λ (t : DirColumns). t.named) c.loop-dir.invariant);
     }
 
 pub loop-dir-preserved : goal.loop-dir-preserved
@@ -18,9 +19,12 @@ loop-dir-preserved c =
     let near : c.loop-dir.dir-index < length c.args.dirs.now = omega arith in
     c.set_named.ensures
     ∙ (ap (λ (t : DirColumns). record t { named = set t.named c.dir-item.result (Some c.args.rank) }) c.loop-dir.invariant
-    ∙ ap (λ (xs : List (Option ℕ)). record c.args.self.now { named = xs }) (mark_next c.args.self.now.named _ (Some c.args.rank) c.args.dirs.now c.loop-dir.dir-index c.dir-item.result near c.dir-item.is refl))
+    ∙ ap (λ (xs : List (Option ℕ)). record c.args.self.now { named = xs })
+    (mark_next c.args.self.now.named _ (Some c.args.rank) c.args.dirs.now c.loop-dir.dir-index c.dir-item.result near c.dir-item.is
+    refl))
 
 pub returns : goal.returns
 returns c =
     let past : length c.args.dirs.now ≤ c.loop-dir.dir-index = omega arith in
-    c.loop-dir.invariant ∙ ap (λ (xs : List (Option ℕ)). record c.args.self.now { named = xs }) (mark_end c.args.self.now.named _ (Some c.args.rank) c.args.dirs.now c.loop-dir.dir-index past refl)
+    c.loop-dir.invariant ∙ ap (λ (xs : List (Option ℕ)). record c.args.self.now { named = xs })
+    (mark_end c.args.self.now.named _ (Some c.args.rank) c.args.dirs.now c.loop-dir.dir-index past refl)

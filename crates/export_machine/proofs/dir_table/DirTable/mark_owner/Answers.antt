@@ -10,7 +10,8 @@ pub set_owner-requires : goal.set_owner-requires
 set_owner-requires c =
     let near : c.loop-dir.dir-index < length c.args.dirs.now = omega arith in
     record {
-      near = mark_near c.args.self.now.owners c.loop-dir.self.owners (Some c.args.rank) c.args.dirs.now c.loop-dir.dir-index c.dir-item.result near c.dir-item.is c.requires.near (ap (λ (t : DirColumns). t.owners) c.loop-dir.invariant);
+      near = mark_near c.args.self.now.owners c.loop-dir.self.owners (Some c.args.rank) c.args.dirs.now c.loop-dir.dir-index
+          c.dir-item.result near c.dir-item.is c.requires.near (ap (λ (t : DirColumns). t.owners) c.loop-dir.invariant);
     }
 
 pub loop-dir-preserved : goal.loop-dir-preserved
@@ -18,9 +19,12 @@ loop-dir-preserved c =
     let near : c.loop-dir.dir-index < length c.args.dirs.now = omega arith in
     c.set_owner.ensures
     ∙ (ap (λ (t : DirColumns). record t { owners = set t.owners c.dir-item.result (Some c.args.rank) }) c.loop-dir.invariant
-    ∙ ap (λ (xs : List (Option ℕ)). record c.args.self.now { owners = xs }) (mark_next c.args.self.now.owners _ (Some c.args.rank) c.args.dirs.now c.loop-dir.dir-index c.dir-item.result near c.dir-item.is refl))
+    ∙ ap (λ (xs : List (Option ℕ)). record c.args.self.now { owners = xs })
+    (mark_next c.args.self.now.owners _ (Some c.args.rank) c.args.dirs.now c.loop-dir.dir-index c.dir-item.result near c.dir-item.is
+    refl))
 
 pub returns : goal.returns
 returns c =
     let past : length c.args.dirs.now ≤ c.loop-dir.dir-index = omega arith in
-    c.loop-dir.invariant ∙ ap (λ (xs : List (Option ℕ)). record c.args.self.now { owners = xs }) (mark_end c.args.self.now.owners _ (Some c.args.rank) c.args.dirs.now c.loop-dir.dir-index past refl)
+    c.loop-dir.invariant ∙ ap (λ (xs : List (Option ℕ)). record c.args.self.now { owners = xs })
+    (mark_end c.args.self.now.owners _ (Some c.args.rank) c.args.dirs.now c.loop-dir.dir-index past refl)

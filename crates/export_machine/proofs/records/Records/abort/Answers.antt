@@ -17,11 +17,14 @@ order-order-requires c = record { near = rw c.set_exporter.ensures (abort_order 
 
 pub mark_opened-requires : goal.mark_opened-requires
 mark_opened-requires c =
-    let here : order_in c.args.self.now.exports.orders c.args.export ≡ c.order-order.result.now = sym (c.order-order.ensures ∙ ap (λ (t : ExportColumns). order_in t.orders c.args.export) c.set_exporter.ensures) in
+    let here : order_in c.args.self.now.exports.orders c.args.export
+    ≡ c.order-order.result.now =
+    sym (c.order-order.ensures ∙ ap (λ (t : ExportColumns). order_in t.orders c.args.export) c.set_exporter.ensures) in
     let e : (order_in c.args.self.now.exports.orders c.args.export).dirs ≡ c.as_slice.result.now = ap (λ (o : Order). o.dirs) here ∙ sym c.as_slice.ensures in
     record {
       near = λ d h. rw c.requires.kept.indexed.opened_places
-          (abort_there (world_of c.args.self.now) (by_safe (world_of c.args.self.now) c.requires.kept.reached) c.args.export (abort_state (world_of c.args.self.now) c.args.export c.requires.accepted) d (ap (λ (ds : List ℕ). is_among ds d) e ∙ h));
+          (abort_there (world_of c.args.self.now) (by_safe (world_of c.args.self.now) c.requires.kept.reached) c.args.export
+          (abort_state (world_of c.args.self.now) c.args.export c.requires.accepted) d (ap (λ (ds : List ℕ). is_among ds d) e ∙ h));
     }
 
 pub send-reply-requires-clause-room : goal.send-reply-requires-clause-room
@@ -29,13 +32,16 @@ unfolding has_room
 send-reply-requires-clause-room c = ltb-true _ _ (and_parts _ _ c.requires.room).1
 
 pub send-reply-requires-clause-few : goal.send-reply-requires-clause-few
-send-reply-requires-clause-few c = let left = room_left (world_of c.args.self.now) (Abort c.args.export) c.requires.accepted in omega (arith, c.requires.kept.sent)
+send-reply-requires-clause-few c = let left = room_left (world_of c.args.self.now) (Abort c.args.export) c.requires.accepted in
+    omega (arith, c.requires.kept.sent)
 
 pub note_told-requires-clause-near : goal.note_told-requires-clause-near
 note_told-requires-clause-near c =
     let w = world_of c.args.self.now in
     let order = abort_order w c.args.export c.requires.accepted in
-    let here : order_in c.args.self.now.exports.orders c.args.export ≡ c.order-order.result.now = sym (c.order-order.ensures ∙ ap (λ (t : ExportColumns). order_in t.orders c.args.export) c.set_exporter.ensures) in
+    let here : order_in c.args.self.now.exports.orders c.args.export
+    ≡ c.order-order.result.now =
+    sym (c.order-order.ensures ∙ ap (λ (t : ExportColumns). order_in t.orders c.args.export) c.set_exporter.ensures) in
     let t : from_of w c.args.export ≡ c.order-order.result.now.from = ap (λ (o : Order). o.from) here in
     let k : c.order-order.result.now.from < length w.journals = rw (← t) (exporter_rank w c.requires.kept.reached c.args.export order) in
     let ranks : w.ranks ≡ length w.journals = numbers_by w c.requires.kept.reached _ _ (λ safe. sym safe.all_ranks) in
@@ -43,22 +49,30 @@ note_told-requires-clause-near c =
 
 pub note_told-requires-clause-exporting : goal.note_told-requires-clause-exporting
 note_told-requires-clause-exporting c =
-    rw c.set_exporter.ensures (length-set c.args.self.now.exports.exporters _ _ ∙ numbers_by (world_of c.args.self.now) c.requires.kept.reached (length c.args.self.now.exports.exporters) (length c.args.self.now.exports.orders) (λ safe. safe.exporting))
+    rw c.set_exporter.ensures (length-set c.args.self.now.exports.exporters _ _
+    ∙ numbers_by (world_of c.args.self.now) c.requires.kept.reached (length c.args.self.now.exports.exporters)
+    (length c.args.self.now.exports.orders) (λ safe. safe.exporting))
 
 pub note_told-requires-clause-importing : goal.note_told-requires-clause-importing
 note_told-requires-clause-importing c =
-    rw c.set_exporter.ensures (numbers_by (world_of c.args.self.now) c.requires.kept.reached (length c.args.self.now.exports.importers) (length c.args.self.now.exports.orders) (λ safe. safe.importing))
+    rw c.set_exporter.ensures (numbers_by (world_of c.args.self.now) c.requires.kept.reached (length c.args.self.now.exports.importers)
+    (length c.args.self.now.exports.orders) (λ safe. safe.importing))
 
 pub note_told-requires-clause-indexed : goal.note_told-requires-clause-indexed
 note_told-requires-clause-indexed c =
     let order = abort_order (world_of c.args.self.now) c.args.export c.requires.accepted in
-    let here : order_in c.args.self.now.exports.orders c.args.export ≡ c.order-order.result.now = sym (c.order-order.ensures ∙ ap (λ (t : ExportColumns). order_in t.orders c.args.export) c.set_exporter.ensures) in
+    let here : order_in c.args.self.now.exports.orders c.args.export
+    ≡ c.order-order.result.now =
+    sym (c.order-order.ensures ∙ ap (λ (t : ExportColumns). order_in t.orders c.args.export) c.set_exporter.ensures) in
     let e : (order_in c.args.self.now.exports.orders c.args.export).dirs ≡ c.as_slice.result.now = ap (λ (o : Order). o.dirs) here ∙ sym c.as_slice.ensures in
     let dirs = c.args.self.now.dirs in
-    let marked : record dirs { opened = map_at (λ k old. cond (is_inside (world_of c.args.self.now) c.args.export k) None old) dirs.opened } ≡ c.mark_opened.new.self =
+    let marked : record dirs { opened = map_at (λ k old. cond (is_inside (world_of c.args.self.now) c.args.export k) None old) dirs.opened }
+    ≡ c.mark_opened.new.self =
     ap (λ (ds : List ℕ). record dirs { opened = map_at (λ k old. cond (is_among ds k) None old) dirs.opened }) e ∙ sym c.mark_opened.ensures in
     rw (← marked, c.set_exporter.ensures)
-    (abort_indexed (world_of c.args.self.now) c.args.export (as_exporter (world_of c.args.self.now) c.requires.kept.reached c.args.export order) c.send-reply.new.sent.items (by_safe (world_of c.args.self.now) c.requires.kept.reached) (indexes_of c.args.self.now)
+    (abort_indexed (world_of c.args.self.now) c.args.export
+    (as_exporter (world_of c.args.self.now) c.requires.kept.reached c.args.export order) c.send-reply.new.sent.items
+    (by_safe (world_of c.args.self.now) c.requires.kept.reached) (indexes_of c.args.self.now)
     c.requires.kept.indexed (abort_state (world_of c.args.self.now) c.args.export c.requires.accepted))
 
 pub returns : goal.returns

@@ -19,5 +19,6 @@ unfolding happens
 returns c =
     record {
       effect = rw (c.send.ensures.items, c.send.ensures.reply) refl;
-      indexed = importer_indexed (world_of c.args.self.now) (indexes_of c.args.self.now) c.requires.kept.indexed c.args.self.now.exports.importers c.send.new.sent.items _ c.requires.kept.indexed.listed;
+      indexed = importer_indexed (world_of c.args.self.now) (indexes_of c.args.self.now) c.requires.kept.indexed
+          c.args.self.now.exports.importers c.send.new.sent.items _ c.requires.kept.indexed.listed;
     }

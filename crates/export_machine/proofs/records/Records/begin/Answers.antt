@@ -29,7 +29,8 @@ begin-requires-clause-near c = rw c.requires.kept.indexed.running_places (begin_
 pub begin-requires-clause-few : goal.begin-requires-clause-few
 begin-requires-clause-few c =
     let m = count_within (runs_on (c.args.dir ∷ [])) c.args.self.now.tickets.items in
-    let l : get_or c.args.self.now.dirs.running c.args.dir 0 ≤ c.args.self.now.events = rw (c.requires.kept.indexed.running c.args.dir) (le_trans m c.requires.kept.tickets) in
+    let l : get_or c.args.self.now.dirs.running c.args.dir 0 ≤ c.args.self.now.events =
+    rw (c.requires.kept.indexed.running c.args.dir) (le_trans m c.requires.kept.tickets) in
     omega (arith, c.requires.kept.counted)
 
 pub returns : goal.returns
@@ -44,6 +45,8 @@ returns c =
           let few : c.args.rank < (world_of c.args.self.now).ranks = begin_rank (world_of c.args.self.now) c.args.rank c.args.dir c.requires.accepted in
           let ranked : c.args.rank < length (indexes_of c.args.self.now).tickets_at = omega (arith, c.requires.kept.indexed.requests.ranked) in
           let e : c.len-ticket.result ≡ length c.args.self.now.tickets.items = omega arith in
-          rw (c.begin.ensures, c.enter.ensures.entered, e) (begin_indexed (world_of c.args.self.now) (indexes_of c.args.self.now) (record { rank = c.args.rank; dir = c.args.dir }) c.requires.kept.indexed near ranked
+          rw (c.begin.ensures, c.enter.ensures.entered, e)
+          (begin_indexed (world_of c.args.self.now) (indexes_of c.args.self.now) (record { rank = c.args.rank; dir = c.args.dir })
+          c.requires.kept.indexed near ranked
           c.push_reserved.new.self.items c.push_reserved.ensures.items));
     }

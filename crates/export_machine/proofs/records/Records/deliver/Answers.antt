@@ -11,7 +11,8 @@ use Rattle.export_machine.proofs.Receiving.{sent_at, sent_order}
 use Rattle.export_machine.proofs.records.Records.deliver.Goals as goal
 
 pub index-message-requires : goal.index-message-requires
-index-message-requires c = let near : c.args.message < length c.args.self.now.sent.items = deliver_near (world_of c.args.self.now) c.args.message c.requires.accepted in omega arith
+index-message-requires c = let near : c.args.message < length c.args.self.now.sent.items =
+    deliver_near (world_of c.args.self.now) c.args.message c.requires.accepted in omega arith
 
 pub receiver-rank-requires : goal.receiver-rank-requires
 receiver-rank-requires c =
@@ -37,7 +38,9 @@ unfolding has_room entered_at
 receive-requires c =
     let sent : slice_get c.args.self.now.sent.items c.args.message ≡ Some c.index-message.result.now =
     sent_at (world_of c.args.self.now) c.args.message c.index-message.result.now c.requires.accepted c.index-message.ensures in
-    let room : (has_entry_places c.args.self.now (receiver_of (world_of c.args.self.now) (slice_get c.args.self.now.sent.items c.args.message)) ≡ true) × (has_spare c.args.self.now.sent ≡ true) = and_parts _ _ c.requires.room in
+    let room : (has_entry_places c.args.self.now
+    (receiver_of (world_of c.args.self.now) (slice_get c.args.self.now.sent.items c.args.message)) ≡ true)
+    × (has_spare c.args.self.now.sent ≡ true) = and_parts _ _ c.requires.room in
     record {
       can = record {
         kept = c.requires.kept;

@@ -17,41 +17,51 @@ ticket_at ts t o h e = any ts t o None h ∙ sym e
     any (u ∷ us) (suc k) a b l = any us k a b (omega arith)
 
 pub index-requires : goal.index-requires
-index-requires c = let near : c.args.ticket < length c.args.self.now.tickets.items = end_near (world_of c.args.self.now) c.args.ticket c.requires.accepted in omega arith
+index-requires c = let near : c.args.ticket < length c.args.self.now.tickets.items =
+    end_near (world_of c.args.self.now) c.args.ticket c.requires.accepted in omega arith
 
 pub returns-in_default : goal.returns-in_default
 returns-in_default c =
     absurd (end_ticket (world_of c.args.self.now) c.args.ticket c.requires.accepted
-    (ticket_at c.args.self.now.tickets.items c.args.ticket c.index.result.now (end_near (world_of c.args.self.now) c.args.ticket c.requires.accepted) c.index.ensures ∙ c.in_default.is))
+    (ticket_at c.args.self.now.tickets.items c.args.ticket c.index.result.now
+    (end_near (world_of c.args.self.now) c.args.ticket c.requires.accepted) c.index.ensures ∙ c.in_default.is))
 
 pub end-requires-clause-near : goal.end-requires-clause-near
 end-requires-clause-near c =
     let e : get_or c.args.self.now.tickets.items c.args.ticket None ≡ Some c.in-Some.request =
-    ticket_at c.args.self.now.tickets.items c.args.ticket c.index.result.now (end_near (world_of c.args.self.now) c.args.ticket c.requires.accepted) c.index.ensures ∙ c.in-Some.is in
+    ticket_at c.args.self.now.tickets.items c.args.ticket c.index.result.now
+    (end_near (world_of c.args.self.now) c.args.ticket c.requires.accepted) c.index.ensures ∙ c.in-Some.is in
     rw c.requires.kept.indexed.running_places (request_there (world_of c.args.self.now) c.requires.kept.reached c.args.ticket c.in-Some.request e)
 
 pub end-requires-clause-some : goal.end-requires-clause-some
 end-requires-clause-some c =
     let e : get_or c.args.self.now.tickets.items c.args.ticket None ≡ Some c.in-Some.request =
-    ticket_at c.args.self.now.tickets.items c.args.ticket c.index.result.now (end_near (world_of c.args.self.now) c.args.ticket c.requires.accepted) c.index.ensures ∙ c.in-Some.is in
+    ticket_at c.args.self.now.tickets.items c.args.ticket c.index.result.now
+    (end_near (world_of c.args.self.now) c.args.ticket c.requires.accepted) c.index.ensures ∙ c.in-Some.is in
     end_runs (world_of c.args.self.now) (indexes_of c.args.self.now) c.args.ticket c.in-Some.request c.requires.kept.indexed e
 
 pub index_mut-requires : goal.index_mut-requires
-index_mut-requires c = let near : c.args.ticket < length c.args.self.now.tickets.items = end_near (world_of c.args.self.now) c.args.ticket c.requires.accepted in omega arith
+index_mut-requires c = let near : c.args.ticket < length c.args.self.now.tickets.items =
+    end_near (world_of c.args.self.now) c.args.ticket c.requires.accepted in omega arith
 
 pub note_end-requires-clause-near : goal.note_end-requires-clause-near
 note_end-requires-clause-near c =
     let e : get_or c.args.self.now.tickets.items c.args.ticket None ≡ Some c.in-Some.request =
-    ticket_at c.args.self.now.tickets.items c.args.ticket c.index.result.now (end_near (world_of c.args.self.now) c.args.ticket c.requires.accepted) c.index.ensures ∙ c.in-Some.is in
+    ticket_at c.args.self.now.tickets.items c.args.ticket c.index.result.now
+    (end_near (world_of c.args.self.now) c.args.ticket c.requires.accepted) c.index.ensures ∙ c.in-Some.is in
     let w = world_of c.args.self.now in
-    let filed : c.in-Some.request.rank < length (indexes_of c.args.self.now).tickets_at = filed_rank w.ranks w.tickets (indexes_of c.args.self.now).tickets_at c.requires.kept.indexed.requests c.args.ticket c.in-Some.request e in
+    let filed : c.in-Some.request.rank < length (indexes_of c.args.self.now).tickets_at =
+    filed_rank w.ranks w.tickets (indexes_of c.args.self.now).tickets_at c.requires.kept.indexed.requests c.args.ticket
+    c.in-Some.request e in
     omega (arith, filed, length-map c.args.self.now.tickets_at.items (λ l. l.items))
 
 pub note_end-requires-clause-indexed : goal.note_end-requires-clause-indexed
 note_end-requires-clause-indexed c =
     let e : get_or c.args.self.now.tickets.items c.args.ticket None ≡ Some c.in-Some.request =
-    ticket_at c.args.self.now.tickets.items c.args.ticket c.index.result.now (end_near (world_of c.args.self.now) c.args.ticket c.requires.accepted) c.index.ensures ∙ c.in-Some.is in
-    let near : c.in-Some.request.dir < length c.args.self.now.dirs.parents = request_there (world_of c.args.self.now) c.requires.kept.reached c.args.ticket c.in-Some.request e in
+    ticket_at c.args.self.now.tickets.items c.args.ticket c.index.result.now
+    (end_near (world_of c.args.self.now) c.args.ticket c.requires.accepted) c.index.ensures ∙ c.in-Some.is in
+    let near : c.in-Some.request.dir < length c.args.self.now.dirs.parents =
+    request_there (world_of c.args.self.now) c.requires.kept.reached c.args.ticket c.in-Some.request e in
     rw c.end.ensures (end_indexed (world_of c.args.self.now) (indexes_of c.args.self.now) c.args.ticket c.in-Some.request c.requires.kept.indexed e near)
 
 pub returns : goal.returns

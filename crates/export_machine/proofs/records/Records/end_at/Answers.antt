@@ -19,4 +19,6 @@ pub returns-clause-indexed : goal.returns-clause-indexed
 returns-clause-indexed c =
     let e : get_or c.args.self.now.tickets.items c.args.ticket None ≡ Some c.in-Some.request =
     ap (λ ts. get_or ts c.args.ticket None) (sym c.deref.ensures.value) ∙ (sym c.value_at.ensures ∙ c.in-Some.is) in
-    rw (c.end.ensures, c.put.ensures.items) (end_indexed (world_of c.args.self.now) (indexes_of c.args.self.now) c.args.ticket c.in-Some.request c.requires.indexed e (c.requires.there c.in-Some.request e))
+    rw (c.end.ensures, c.put.ensures.items)
+    (end_indexed (world_of c.args.self.now) (indexes_of c.args.self.now) c.args.ticket c.in-Some.request c.requires.indexed e
+    (c.requires.there c.in-Some.request e))

@@ -19,5 +19,7 @@ unfolding happens
 returns c =
     record {
       effect = rw (c.send.ensures.items, c.send.ensures.reply, c.set_exporter.ensures) refl;
-      indexed = rw c.set_exporter.ensures (froze_indexed (world_of c.args.self.now) (indexes_of c.args.self.now) c.args.export c.requires.kept.indexed (froze_state (world_of c.args.self.now) c.args.export c.requires.accepted) c.send.new.sent.items);
+      indexed = rw c.set_exporter.ensures
+          (froze_indexed (world_of c.args.self.now) (indexes_of c.args.self.now) c.args.export c.requires.kept.indexed
+          (froze_state (world_of c.args.self.now) c.args.export c.requires.accepted) c.send.new.sent.items);
     }

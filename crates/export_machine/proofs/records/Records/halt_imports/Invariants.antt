@@ -10,5 +10,7 @@ abbrev pub invariant-loop-at : goal.invariant-loop-at
 invariant-loop-at l = record {
   others : l.self ≡ record l.fn.self { exports = record l.fn.self.exports { importers = l.self.exports.importers } };
   importers : l.self.exports.importers
-      ≡ changed_among (λ x state. cond (eqb (to_of (world_of l.fn.self) x) l.rank) (importer_at_stop (get_or l.fn.self.exports.dropped x false) state) state) (take l.at (get_or (indexes_of l.fn.self).open_at l.rank [])) l.fn.self.exports.importers;
+      ≡ changed_among (λ x state. cond (eqb (to_of (world_of l.fn.self) x) l.rank)
+      (importer_at_stop (get_or l.fn.self.exports.dropped x false) state) state)
+      (take l.at (get_or (indexes_of l.fn.self).open_at l.rank [])) l.fn.self.exports.importers;
 }

@@ -20,13 +20,16 @@ returns-in_default c =
 
 pub enter-requires-clause-near : goal.enter-requires-clause-near
 enter-requires-clause-near c =
-    let k : c.in-Some.rank < length (world_of c.args.self.now).journals = as_rank (world_of c.args.self.now) c.requires.kept.reached c.args.parent c.in-Some.rank (owned c.args.self.now c.args.parent c.requires.kept c.owner.ensures c.in-Some.is) in
+    let k : c.in-Some.rank < length (world_of c.args.self.now).journals =
+    as_rank (world_of c.args.self.now) c.requires.kept.reached c.args.parent c.in-Some.rank
+    (owned c.args.self.now c.args.parent c.requires.kept c.owner.ensures c.in-Some.is) in
     omega (arith, length-map c.args.self.now.journals.items (λ j. j.items))
 
 pub enter-requires-clause-room : goal.enter-requires-clause-room
 unfolding has_room entered_at
 enter-requires-clause-room c =
-    let a : authority (world_of c.args.self.now) c.args.parent ≡ Some c.in-Some.rank = owned c.args.self.now c.args.parent c.requires.kept c.owner.ensures c.in-Some.is in
+    let a : authority (world_of c.args.self.now) c.args.parent
+    ≡ Some c.in-Some.rank = owned c.args.self.now c.args.parent c.requires.kept c.owner.ensures c.in-Some.is in
     (and_parts _ _ (ap (has_entry_places c.args.self.now) (sym a) ∙ (and_parts _ _ c.requires.room).0)).0
 
 pub push_reserved-requires : goal.push_reserved-requires
@@ -55,13 +58,17 @@ unfolding happens
 returns c =
     record {
       effect =
-          (let a : authority (world_of c.args.self.now) c.args.parent ≡ Some c.in-Some.rank = owned c.args.self.now c.args.parent c.requires.kept c.owner.ensures c.in-Some.is in
+          (let a : authority (world_of c.args.self.now) c.args.parent
+          ≡ Some c.in-Some.rank = owned c.args.self.now c.args.parent c.requires.kept c.owner.ensures c.in-Some.is in
           let n : c.new-dir.result ≡ length c.args.self.now.dirs.parents = omega arith in
           rw (a, c.enter.ensures.entered, c.add_child.ensures, c.push_reserved.ensures, n) refl);
       indexed =
           (let p : c.args.parent < length c.args.self.now.dirs.parents = made_parent (world_of c.args.self.now) c.args.parent c.requires.accepted in
-          let k : c.in-Some.rank < length (world_of c.args.self.now).journals = as_rank (world_of c.args.self.now) c.requires.kept.reached c.args.parent c.in-Some.rank (owned c.args.self.now c.args.parent c.requires.kept c.owner.ensures c.in-Some.is) in
+          let k : c.in-Some.rank < length (world_of c.args.self.now).journals =
+          as_rank (world_of c.args.self.now) c.requires.kept.reached c.args.parent c.in-Some.rank
+          (owned c.args.self.now c.args.parent c.requires.kept c.owner.ensures c.in-Some.is) in
           let n : c.new-dir.result ≡ length c.args.self.now.dirs.parents = omega arith in
           rw (c.enter.ensures.entered, c.add_child.ensures, c.push_reserved.ensures, c.push_reserved-2.ensures.items, n)
-          (made_indexed (world_of c.args.self.now) c.in-Some.rank c.args.parent k c.requires.kept.reached (indexes_of c.args.self.now) c.requires.kept.indexed p));
+          (made_indexed (world_of c.args.self.now) c.in-Some.rank c.args.parent k c.requires.kept.reached (indexes_of c.args.self.now)
+          c.requires.kept.indexed p));
     }

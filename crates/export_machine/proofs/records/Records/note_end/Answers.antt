@@ -14,5 +14,6 @@ returns-else-ended-len-clause-indexed c =
     let left : c.keep_running.new.listed.items ≡ kept c.index_mut.result.now.items =
     c.keep_running.ensures ∙ ap (λ ts. filter (λ t. is_some (get_or ts t None)) c.index_mut.result.now.items) c.deref-else-ended-len.ensures.value in
     let near : c.args.rank < length i.tickets_at = omega (arith, c.requires.near, length-map c.args.self.now.tickets_at.items (λ l. l.items)) in
-    rw (list_set kept c.args.self.now.tickets_at.items c.number-index.result c.args.rank c.keep_running.new.listed c.index_mut.result.now c.number-index.ensures.value c.requires.near c.index_mut.ensures.value left)
+    rw (list_set kept c.args.self.now.tickets_at.items c.number-index.result c.args.rank c.keep_running.new.listed c.index_mut.result.now
+    c.number-index.ensures.value c.requires.near c.index_mut.ensures.value left)
     (refiled w i c.requires.indexed _ (kept_filed w.ranks w.tickets i.tickets_at c.args.rank c.requires.indexed.requests near))

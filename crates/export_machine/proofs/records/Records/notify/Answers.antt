@@ -18,27 +18,35 @@ order-order-requires c = record { near = rw c.set_exporter.ensures (notify_order
 pub enter-requires-clause-near : goal.enter-requires-clause-near
 enter-requires-clause-near c =
     let order = notify_order (world_of c.args.self.now) c.args.export c.requires.accepted in
-    let here : order_in c.args.self.now.exports.orders c.args.export ≡ c.order-order.result.now = sym (c.order-order.ensures ∙ ap (λ (t : ExportColumns). order_in t.orders c.args.export) c.set_exporter.ensures) in
+    let here : order_in c.args.self.now.exports.orders c.args.export
+    ≡ c.order-order.result.now =
+    sym (c.order-order.ensures ∙ ap (λ (t : ExportColumns). order_in t.orders c.args.export) c.set_exporter.ensures) in
     let t : from_of (world_of c.args.self.now) c.args.export ≡ c.order-order.result.now.from = ap (λ (o : Order). o.from) here in
-    let k : c.order-order.result.now.from < length (world_of c.args.self.now).journals = rw (← t) (exporter_rank (world_of c.args.self.now) c.requires.kept.reached c.args.export order) in
+    let k : c.order-order.result.now.from < length (world_of c.args.self.now).journals =
+    rw (← t) (exporter_rank (world_of c.args.self.now) c.requires.kept.reached c.args.export order) in
     omega (arith, length-map c.args.self.now.journals.items (λ j. j.items))
 
 pub enter-requires-clause-room : goal.enter-requires-clause-room
 unfolding has_room entered_at
 enter-requires-clause-room c =
     let order = notify_order (world_of c.args.self.now) c.args.export c.requires.accepted in
-    let here : order_in c.args.self.now.exports.orders c.args.export ≡ c.order-order.result.now = sym (c.order-order.ensures ∙ ap (λ (t : ExportColumns). order_in t.orders c.args.export) c.set_exporter.ensures) in
+    let here : order_in c.args.self.now.exports.orders c.args.export
+    ≡ c.order-order.result.now =
+    sym (c.order-order.ensures ∙ ap (λ (t : ExportColumns). order_in t.orders c.args.export) c.set_exporter.ensures) in
     let t : from_of (world_of c.args.self.now) c.args.export ≡ c.order-order.result.now.from = ap (λ (o : Order). o.from) here in
     rw (← t) (and_parts _ _ (and_parts _ _ c.requires.room).0).0
 
 pub mark_named-requires : goal.mark_named-requires
 mark_named-requires c =
     let order = notify_order (world_of c.args.self.now) c.args.export c.requires.accepted in
-    let here : order_in c.args.self.now.exports.orders c.args.export ≡ c.order-order.result.now = sym (c.order-order.ensures ∙ ap (λ (t : ExportColumns). order_in t.orders c.args.export) c.set_exporter.ensures) in
+    let here : order_in c.args.self.now.exports.orders c.args.export
+    ≡ c.order-order.result.now =
+    sym (c.order-order.ensures ∙ ap (λ (t : ExportColumns). order_in t.orders c.args.export) c.set_exporter.ensures) in
     let f : (order_in c.args.self.now.exports.orders c.args.export).dirs ≡ c.as_slice.result.now =
     ap (λ (o : Order). o.dirs) here ∙ sym c.as_slice.ensures in
     record {
-      near = λ d h. notify_there (world_of c.args.self.now) c.requires.kept.reached c.args.export (notify_state (world_of c.args.self.now) c.args.export c.requires.accepted) d (ap (λ (ds : List ℕ). is_among ds d) f ∙ h);
+      near = λ d h. notify_there (world_of c.args.self.now) c.requires.kept.reached c.args.export
+          (notify_state (world_of c.args.self.now) c.args.export c.requires.accepted) d (ap (λ (ds : List ℕ). is_among ds d) f ∙ h);
     }
 
 pub send-requires-clause-room : goal.send-requires-clause-room
@@ -52,18 +60,31 @@ pub returns : goal.returns
 unfolding happens
 returns c =
     let order = notify_order (world_of c.args.self.now) c.args.export c.requires.accepted in
-    let here : order_in c.args.self.now.exports.orders c.args.export ≡ c.order-order.result.now = sym (c.order-order.ensures ∙ ap (λ (t : ExportColumns). order_in t.orders c.args.export) c.set_exporter.ensures) in
+    let here : order_in c.args.self.now.exports.orders c.args.export
+    ≡ c.order-order.result.now =
+    sym (c.order-order.ensures ∙ ap (λ (t : ExportColumns). order_in t.orders c.args.export) c.set_exporter.ensures) in
     let t : from_of (world_of c.args.self.now) c.args.export ≡ c.order-order.result.now.from = ap (λ (o : Order). o.from) here in
     let u : to_of (world_of c.args.self.now) c.args.export ≡ c.order-order.result.now.to = ap (λ (o : Order). o.to) here in
     let f : (order_in c.args.self.now.exports.orders c.args.export).dirs ≡ c.as_slice.result.now =
     ap (λ (o : Order). o.dirs) here ∙ sym c.as_slice.ensures in
     let dirs = c.args.self.now.dirs in
-    let m : record dirs { named = map_at (λ k old. cond (is_among (order_in c.args.self.now.exports.orders c.args.export).dirs k) (Some (to_of (world_of c.args.self.now) c.args.export)) old) dirs.named } ≡ c.mark_named.new.self =
-    ap (λ (ds : List ℕ). record dirs { named = map_at (λ k old. cond (is_among ds k) (Some (to_of (world_of c.args.self.now) c.args.export)) old) dirs.named }) f
-    ∙ (ap (λ (s : ℕ). record dirs { named = map_at (λ k old. cond (is_among c.as_slice.result.now k) (Some s) old) dirs.named }) u ∙ sym c.mark_named.ensures) in
+    let m : record dirs {
+      named =
+          map_at (λ k old. cond (is_among (order_in c.args.self.now.exports.orders c.args.export).dirs k)
+          (Some (to_of (world_of c.args.self.now) c.args.export)) old) dirs.named;
+    } ≡ c.mark_named.new.self =
+    ap (λ (ds : List ℕ). record dirs {
+      named =
+          map_at (λ k old. cond (is_among ds k) (Some (to_of (world_of c.args.self.now) c.args.export)) old) dirs.named;
+    }) f
+    ∙ (ap (λ (s : ℕ). record dirs { named = map_at (λ k old. cond (is_among c.as_slice.result.now k) (Some s) old) dirs.named }) u
+    ∙ sym c.mark_named.ensures) in
     record {
       effect = rw (c.send.ensures.items, c.send.ensures.reply, c.enter.ensures.entered, ← t, ← m, c.set_exporter.ensures) refl;
       indexed =
-          rw (c.enter.ensures.entered, ← t, ← m, c.set_exporter.ensures) (notify_indexed (world_of c.args.self.now) c.args.export (notify_state (world_of c.args.self.now) c.args.export c.requires.accepted)
-          (exporter_rank (world_of c.args.self.now) c.requires.kept.reached c.args.export order) c.send.new.sent.items c.requires.kept.reached (indexes_of c.args.self.now) c.requires.kept.indexed);
+          rw (c.enter.ensures.entered, ← t, ← m, c.set_exporter.ensures)
+          (notify_indexed (world_of c.args.self.now) c.args.export
+          (notify_state (world_of c.args.self.now) c.args.export c.requires.accepted)
+          (exporter_rank (world_of c.args.self.now) c.requires.kept.reached c.args.export order) c.send.new.sent.items
+          c.requires.kept.reached (indexes_of c.args.self.now) c.requires.kept.indexed);
     }

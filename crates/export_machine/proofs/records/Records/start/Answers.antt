@@ -17,7 +17,8 @@ pub mark_opened-requires : goal.mark_opened-requires
 mark_opened-requires c =
     record {
       near = λ d h. rw c.requires.kept.indexed.opened_places
-          (start_there (world_of c.args.self.now) c.args.from c.args.to c.args.dirs c.requires.accepted d (ap (λ (ds : List ℕ). is_among ds d) (sym c.as_slice.ensures) ∙ h));
+          (start_there (world_of c.args.self.now) c.args.from c.args.to c.args.dirs c.requires.accepted d
+          (ap (λ (ds : List ℕ). is_among ds d) (sym c.as_slice.ensures) ∙ h));
     }
 
 pub push_reserved-requires : goal.push_reserved-requires
@@ -30,7 +31,8 @@ push_reserved-requires-2 c = ltb-true _ _ (and_parts _ _ (and_parts _ _ (and_par
 
 pub enter-requires-clause-near : goal.enter-requires-clause-near
 enter-requires-clause-near c =
-    let few : c.args.from < (world_of c.args.self.now).ranks = start_from_rank (world_of c.args.self.now) c.args.from c.args.to c.args.dirs c.requires.accepted in
+    let few : c.args.from < (world_of c.args.self.now).ranks =
+    start_from_rank (world_of c.args.self.now) c.args.from c.args.to c.args.dirs c.requires.accepted in
     omega (arith, c.requires.kept.indexed.listed.ranked, length-map c.args.self.now.open_at.items (λ l. l.items))
 
 pub enter-requires-clause-room : goal.enter-requires-clause-room
@@ -61,5 +63,6 @@ returns c =
             c.as_slice.ensures,
             n,
           )
-          (start_indexed (world_of c.args.self.now) c.args.from c.args.to c.args.dirs c.requires.accepted c.requires.kept.reached (indexes_of c.args.self.now) c.requires.kept.indexed));
+          (start_indexed (world_of c.args.self.now) c.args.from c.args.to c.args.dirs c.requires.accepted c.requires.kept.reached
+          (indexes_of c.args.self.now) c.requires.kept.indexed));
     }

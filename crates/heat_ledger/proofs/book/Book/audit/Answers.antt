@@ -17,7 +17,9 @@ invariant_of-self g c =
     let now : z ≡ after_issue 0 [] [] x = search rules in (
       search rules,
       search rules,
-      same_book (g.J.Naming.limit + g.J.Naming.limit) b.token.me.0 z b.shares b.counted.items b.begun.items c.self.invariant.2 (ap (λ (h : TokenState). h.has_totals) now ∙ e.has_totals) (ap (λ (h : TokenState). h.amounts) now) (let p = ap (λ (h : TokenState). h.parts) now in let q = e.parts in omega arith)
+      same_book (g.J.Naming.limit + g.J.Naming.limit) b.token.me.0 z b.shares b.counted.items b.begun.items c.self.invariant.2
+          (ap (λ (h : TokenState). h.has_totals) now ∙ e.has_totals) (ap (λ (h : TokenState). h.amounts) now)
+          (let p = ap (λ (h : TokenState). h.parts) now in let q = e.parts in omega arith)
           (λ k. (let t = ap (λ (h : TokenState). at h.totals k) now in let a = at_sums x.totals [] k in let u = e.totals k in omega arith)),
       search rules,
       search rules,

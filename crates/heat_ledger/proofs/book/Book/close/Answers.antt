@@ -13,7 +13,9 @@ grant-requires-clause-issues g c =
     let w = c.gather.new.authority.me.0 in
     let left : b.shares - weight_of c.args.shares.items ≡ 0 = search rules in
     let same : c.learn.new.token.me.0 ≡ w = search rules in
-    let z = closed (g.J.Naming.limit + g.J.Naming.limit) b.token.me.0 w b.shares b.counted.items b.begun.items c.args.shares.items c.self.invariant.2 c.gather.ensures.gathered c.gather.ensures.authority.0 c.gather.ensures.authority.1 c.learn.ensures.learned left in
+    let z = closed (g.J.Naming.limit + g.J.Naming.limit) b.token.me.0 w b.shares b.counted.items b.begun.items c.args.shares.items
+    c.self.invariant.2 c.gather.ensures.gathered c.gather.ensures.authority.0 c.gather.ensures.authority.1 c.learn.ensures.learned
+    left in
     record {
       has_totals = ap (λ (h : TokenState). h.has_totals) same ∙ c.gather.ensures.authority.0;
       few = omega (arith, ap (λ (h : TokenState). h.parts) same, z.parts, c.self.invariant.2.parts);
@@ -28,11 +30,14 @@ invariant_of-self-2 g c =
     let w = c.gather.new.authority.me.0 in
     let left : b.shares - weight_of c.args.shares.items ≡ 0 = search rules in
     let same : c.learn.new.token.me.0 ≡ w = search rules in
-    let z = closed (g.J.Naming.limit + g.J.Naming.limit) b.token.me.0 w b.shares b.counted.items b.begun.items c.args.shares.items c.self.invariant.2 c.gather.ensures.gathered c.gather.ensures.authority.0 c.gather.ensures.authority.1 c.learn.ensures.learned left in
+    let z = closed (g.J.Naming.limit + g.J.Naming.limit) b.token.me.0 w b.shares b.counted.items b.begun.items c.args.shares.items
+    c.self.invariant.2 c.gather.ensures.gathered c.gather.ensures.authority.0 c.gather.ensures.authority.1 c.learn.ensures.learned
+    left in
     let now : c.grant.new.authority.me.0 ≡ after_issue b.shares [] [] w = search rules in (
       search rules,
       search rules,
-      retired (g.J.Naming.limit + g.J.Naming.limit) b.token.me.0 w c.grant.new.authority.me.0 b.shares b.counted.items b.begun.items c.self.invariant.2 c.gather.ensures.authority.0 c.gather.ensures.authority.1 z.parts now,
+      retired (g.J.Naming.limit + g.J.Naming.limit) b.token.me.0 w c.grant.new.authority.me.0 b.shares b.counted.items b.begun.items
+          c.self.invariant.2 c.gather.ensures.authority.0 c.gather.ensures.authority.1 z.parts now,
       search rules,
       search rules,
     )
@@ -43,5 +48,7 @@ returns-clause-begun g c dir =
     let w = c.gather.new.authority.me.0 in
     let left : b.shares - weight_of c.args.shares.items ≡ 0 = search rules in
     let same : c.learn.new.token.me.0 ≡ w = search rules in
-    let z = closed (g.J.Naming.limit + g.J.Naming.limit) b.token.me.0 w b.shares b.counted.items b.begun.items c.args.shares.items c.self.invariant.2 c.gather.ensures.gathered c.gather.ensures.authority.0 c.gather.ensures.authority.1 c.learn.ensures.learned left in
+    let z = closed (g.J.Naming.limit + g.J.Naming.limit) b.token.me.0 w b.shares b.counted.items b.begun.items c.args.shares.items
+    c.self.invariant.2 c.gather.ensures.gathered c.gather.ensures.authority.0 c.gather.ensures.authority.1 c.learn.ensures.learned
+    left in
     at_evens b.begun.items dir ∙ z.begun dir

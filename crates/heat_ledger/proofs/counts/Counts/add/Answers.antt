@@ -14,16 +14,38 @@ note-requires c = record { room = λ none. room none }
     room none =
         let i = c.self.inside in
         let pending = (data_of i.kept).pending in
-        let long : length pending ≡ i.kept.limit = length_column (λ (x : EntryCounts). x.pending) i.kept.limit i.kept.counts.items i.kept.places.items c.self.invariant.0.few in
-        let inside : c.args.entry < length pending = omega (arith, long, length_column (λ (x : EntryCounts). x.hits) i.kept.limit i.kept.counts.items i.kept.places.items c.self.invariant.0.few, ap (λ (v : CountsData). length v.hits) c.self.view_is, c.requires.inside) in
-        omega (arith, tracked_room pending i.unsettled.items c.args.entry c.self.invariant.1 inside (sym (ap (λ (x : EntryCounts). x.pending) c.add-had.ensures.had) ∙ none), long, c.self.invariant.2, i.unsettled.ok)
+        let long : length pending ≡ i.kept.limit = length_column (λ (x : EntryCounts). x.pending) i.kept.limit i.kept.counts.items
+        i.kept.places.items c.self.invariant.0.few in
+        let inside : c.args.entry < length pending = omega (
+          arith,
+          long,
+          length_column (λ (x : EntryCounts). x.hits) i.kept.limit i.kept.counts.items i.kept.places.items
+              c.self.invariant.0.few,
+          ap (λ (v : CountsData). length v.hits) c.self.view_is,
+          c.requires.inside,
+        ) in
+        omega (
+          arith,
+          tracked_room pending i.unsettled.items c.args.entry c.self.invariant.1 inside
+              (sym (ap (λ (x : EntryCounts). x.pending) c.add-had.ensures.had) ∙ none),
+          long,
+          c.self.invariant.2,
+          i.unsettled.ok,
+        )
 
 pub invariant_of-self : goal.invariant_of-self
 invariant_of-self c =
     let i = c.self.inside in
     let pending = (data_of i.kept).pending in
-    let inside : c.args.entry < length pending = omega (arith, length_column (λ (x : EntryCounts). x.pending) i.kept.limit i.kept.counts.items i.kept.places.items c.self.invariant.0.few, length_column (λ (x : EntryCounts). x.hits) i.kept.limit i.kept.counts.items i.kept.places.items c.self.invariant.0.few, ap (λ (v : CountsData). length v.hits) c.self.view_is, c.requires.inside) in (
+    let inside : c.args.entry < length pending = omega (
+      arith,
+      length_column (λ (x : EntryCounts). x.pending) i.kept.limit i.kept.counts.items i.kept.places.items c.self.invariant.0.few,
+      length_column (λ (x : EntryCounts). x.hits) i.kept.limit i.kept.counts.items i.kept.places.items c.self.invariant.0.few,
+      ap (λ (v : CountsData). length v.hits) c.self.view_is,
+      c.requires.inside,
+    ) in (
       c.add-had.ensures.kept,
-      subst (λ (l : List ℕ). IsTracked l c.note.new.noted.items) (sym (ap (λ (v : CountsData). v.pending) c.add-had.ensures.added)) (c.note.ensures.tracked pending c.self.invariant.1 inside (sym (ap (λ (x : EntryCounts). x.pending) c.add-had.ensures.had))),
+      subst (λ (l : List ℕ). IsTracked l c.note.new.noted.items) (sym (ap (λ (v : CountsData). v.pending) c.add-had.ensures.added))
+          (c.note.ensures.tracked pending c.self.invariant.1 inside (sym (ap (λ (x : EntryCounts). x.pending) c.add-had.ensures.had))),
       search rules,
     )

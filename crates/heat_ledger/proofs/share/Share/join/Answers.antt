@@ -12,7 +12,8 @@ join-requires-clause-fits g c e =
     let t = c.other.inside in
     let met : c.merge.new.token.me.0 ≡ both_of s.token.me.0 t.token.me.0 = search rules in
     let l = subst IsLearned met c.learn.ensures.learned in
-    let fit = (join_fits (g.J.Naming.limit + g.J.Naming.limit) s.token.me.0 t.token.me.0 s.weight t.weight s.counts t.counts c.self.invariant.2 c.other.invariant.2 l).1 e in
+    let fit = (join_fits (g.J.Naming.limit + g.J.Naming.limit) s.token.me.0 t.token.me.0 s.weight t.weight s.counts t.counts
+    c.self.invariant.2 c.other.invariant.2 l).1 e in
     record { hits = λ some. omega (arith, fit.0); pending = λ some. omega (arith, fit.1); begun = λ some. omega (arith, fit.2) }
 
 pub invariant_of-self : goal.invariant_of-self
@@ -25,7 +26,8 @@ invariant_of-self g c =
       search rules,
       search rules,
       rw c.join.ensures (subst (λ (v : TokenState). IsShare (g.J.Naming.limit + g.J.Naming.limit) v (s.weight + t.weight) (sum_counts s.counts t.counts)) now
-          (join_kept (g.J.Naming.limit + g.J.Naming.limit) s.token.me.0 t.token.me.0 s.weight t.weight s.counts t.counts c.self.invariant.2 c.other.invariant.2 l)),
+          (join_kept (g.J.Naming.limit + g.J.Naming.limit) s.token.me.0 t.token.me.0 s.weight t.weight s.counts t.counts c.self.invariant.2
+          c.other.invariant.2 l)),
     )
 
 pub returns : goal.returns

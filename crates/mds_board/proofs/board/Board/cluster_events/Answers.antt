@@ -33,5 +33,6 @@ returns-clause-again g c =
     let past = subst (λ (es : List Entry). length es ≤ c.loop-number.number) same all_told in
     let all = c.loop-number.invariant.events ∙ ap cluster_events (take_all c.loop-number.number c.args.self.now.history past) in
     subst (λ (w : World). run (start w.state.directories.limit w.state.pins.active) c.loop-number.events.items ≡ w.state.cluster) c.self.view_is
-    (ap (run (start c.self.inside.state.state.directories.limit c.self.inside.state.state.pins.active)) (all ∙ ap (λ (w : World). cluster_events w.history) (sym c.self.view_is))
+    (ap (run (start c.self.inside.state.state.directories.limit c.self.inside.state.state.pins.active))
+    (all ∙ ap (λ (w : World). cluster_events w.history) (sym c.self.view_is))
     ∙ sym (cluster_ran _ _ _ c.self.invariant.replay))

@@ -9,7 +9,8 @@ loop-command-preserved g c =
     let near : c.loop-command.command-index < length c.args.commands.now = omega arith in
     record {
       answered = rw (take_next c.args.commands.now c.loop-command.command-index c.command-item.result near c.command-item.is, c.push_reserved.ensures.items)
-          (carried_next g.S.Solver.also c.args.self.now c.loop-command.self c.carry_out.new.self (take c.loop-command.command-index c.args.commands.now) c.loop-command.answers.items
+          (carried_next g.S.Solver.also c.args.self.now c.loop-command.self c.carry_out.new.self
+          (take c.loop-command.command-index c.args.commands.now) c.loop-command.answers.items
           c.command-item.result c.carry_out.result c.loop-command.invariant.answered c.carry_out.ensures);
       count = omega arith;
       room = omega arith;

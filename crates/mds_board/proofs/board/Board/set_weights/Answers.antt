@@ -7,5 +7,7 @@ use Rattle.mds_board.proofs.board.Board.set_weights.Goals as goal
 
 pub invariant_of-self-2 : goal.invariant_of-self-2
 invariant_of-self-2 g c =
-    keeps c.self.inside.state c.set_weights.new.self c.self.inside.history.entries c.keep.new.self.entries (change.Weights c.args.read c.args.write) (answer.Done) c.self.invariant c.in_ok-set_weights.ensures
-    (c.keep.ensures ∙ ap (λ (es : List Entry). es ++ record { change = change.Weights c.args.read c.args.write; reply = answer.Done } ∷ []) c.reserve.ensures.same)
+    keeps c.self.inside.state c.set_weights.new.self c.self.inside.history.entries c.keep.new.self.entries
+    (change.Weights c.args.read c.args.write) (answer.Done) c.self.invariant c.in_ok-set_weights.ensures
+    (c.keep.ensures ∙ ap (λ (es : List Entry). es ++ record { change = change.Weights c.args.read c.args.write; reply = answer.Done } ∷ [])
+    c.reserve.ensures.same)

@@ -7,5 +7,6 @@ use Rattle.mds_board.proofs.board.Board.tick.Goals as goal
 
 pub invariant_of-self-2 : goal.invariant_of-self-2
 invariant_of-self-2 g c =
-    keeps c.self.inside.state c.tick.new.self c.self.inside.history.entries c.keep_tick.new.self.entries (change.Tick) (answer.Done) c.self.invariant c.in_ok-tick.ensures
+    keeps c.self.inside.state c.tick.new.self c.self.inside.history.entries c.keep_tick.new.self.entries (change.Tick) (answer.Done)
+    c.self.invariant c.in_ok-tick.ensures
     (c.keep_tick.ensures ∙ ap (λ (es : List Entry). es ++ record { change = change.Tick; reply = answer.Done } ∷ []) c.reserve.ensures.same)

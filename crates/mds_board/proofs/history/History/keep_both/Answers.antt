@@ -16,7 +16,8 @@ returns-clause-kept c =
     let first : c.len.result ≡ length others = omega arith in
     let next : c.len-2.result ≡ length (others ++ opened ∷ []) = rw (← c.push_reserved-2.ensures.items) (omega arith) in
     rw (c.push_reserved-4.ensures.items, c.push_reserved-3.ensures.items, c.push_reserved-2.ensures.items, c.push_reserved.ensures.items)
-    (other_more (others ++ opened ∷ []) (slots ++ slot.Other c.len.result ∷ []) adopted c.len-2.result next (other_kept others slots opened c.len.result first c.self.invariant)
+    (other_more (others ++ opened ∷ []) (slots ++ slot.Other c.len.result ∷ []) adopted c.len-2.result next
+    (other_kept others slots opened c.len.result first c.self.invariant)
     ∙ (ap (λ (es : List Entry). es ++ adopted ∷ []) (other_more others slots opened c.len.result first c.self.invariant)
     ∙ (append_assoc (entries_in others slots) (opened ∷ []) (adopted ∷ [])
     ∙ ap (λ (h : HistoryData). h.entries ++ opened ∷ adopted ∷ []) c.self.view_is)))

@@ -56,7 +56,8 @@ invariant_of-self-2 g c =
     let written = c.recorded.ensures.recorded w e (subst (λ v. IsReached v) c.reserve-2.ensures.world c.reached.ensures.reached) in
     let gone = c.in-Ok.ensures.removed in
     let ops : g.M.Publisher.published c.clear.new.self ++ g.M.Publisher.pending c.clear.new.self ≡ (published ++ pending) ++ map_change w e =
-    rw (c.clear.ensures.published, c.clear.ensures.appended, c.reserve.ensures.same.0, c.reserve.ensures.same.1) (sym (append_assoc published pending (map_change w e))) in (
+    rw (c.clear.ensures.published, c.clear.ensures.appended, c.reserve.ensures.same.0, c.reserve.ensures.same.1)
+    (sym (append_assoc published pending (map_change w e))) in (
       record {
         few_ticks = omega (arith, i.few_ticks);
         pins_limit = rw gone i.pins_limit;

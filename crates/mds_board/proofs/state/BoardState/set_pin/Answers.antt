@@ -7,7 +7,8 @@ use Rattle.mds_board.proofs.state.BoardState.set_pin.Goals as goal
 pub unreachable-requires : goal.unreachable-requires
 unreachable-requires g c =
     let may = may_pin _ _ _ (sym c.in_default.ensures) in
-    let here = subst (λ (p : Present). pin_refusal p.state.pins.active p.state.directories.entries c.args.dir (to_z w32 (of_z w32 c.args.pin)) ≡ None) (sym c.self.view_is) may in
+    let here = subst (λ (p : Present). pin_refusal p.state.pins.active p.state.directories.entries c.args.dir
+    (to_z w32 (of_z w32 c.args.pin)) ≡ None) (sym c.self.view_is) may in
     let bad = sym here ∙ c.in_default-set.ensures.refused in cc
 
 pub overflow_add-self : goal.overflow_add-self

@@ -43,7 +43,8 @@ invariant_of-self-2 g c =
     let is = c.happen-reply.ensures.world ∙ ap (λ v. machine.counted (machine.happens v e).world) c.prepare.ensures.world in
     let written = c.recorded.ensures.recorded w e (subst (λ v. IsReached v) c.prepare.ensures.world c.reached.ensures.reached) in
     let ops : g.M.Publisher.published c.name.new.map ++ g.M.Publisher.pending c.name.new.map ≡ (published ++ pending) ++ map_change w e =
-    rw (c.name.ensures.published, c.name.ensures.appended, c.prepare.ensures.same.0, c.prepare.ensures.same.1, c.in-Ok.ensures.named) (sym (append_assoc published pending (map_change w e))) in (
+    rw (c.name.ensures.published, c.name.ensures.appended, c.prepare.ensures.same.0, c.prepare.ensures.same.1, c.in-Ok.ensures.named)
+    (sym (append_assoc published pending (map_change w e))) in (
       record {
         few_ticks = omega (arith, i.few_ticks);
         pins_limit = i.pins_limit;
@@ -67,5 +68,17 @@ returns g c =
       tt,
       rw (c.happen-reply.ensures.reply, c.prepare.ensures.world, ← c.self.view_is) (sym (step_reply _ _)),
       step_present c.args.self.now _ c.args.event c.requires.inner
-          (rw (c.happen-reply.ensures.world, c.name.ensures.published, c.name.ensures.appended, c.mark_if.ensures, c.logs_export-logs.ensures, c.prepare.ensures.world, c.prepare.ensures.same.0, c.prepare.ensures.same.1, c.in-Ok.ensures.named, ← c.self.view_is, append_assoc published pending (map_change w c.args.event)) refl),
+          (rw (
+            c.happen-reply.ensures.world,
+            c.name.ensures.published,
+            c.name.ensures.appended,
+            c.mark_if.ensures,
+            c.logs_export-logs.ensures,
+            c.prepare.ensures.world,
+            c.prepare.ensures.same.0,
+            c.prepare.ensures.same.1,
+            c.in-Ok.ensures.named,
+            ← c.self.view_is,
+            append_assoc published pending (map_change w c.args.event),
+          ) refl),
     )

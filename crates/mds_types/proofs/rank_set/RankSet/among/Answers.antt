@@ -15,4 +15,5 @@ returns-clause-bits c =
     rw (← c.self.view_is) (low_ranks c.self.inside.bits c.args.active _ mask (lt-leb 64 c.args.active c.if-active-ge-RANK_LIMIT.false))
 
 pub returns-then-active-ge-RANK_LIMIT-clause-bits : goal.returns-then-active-ge-RANK_LIMIT-clause-bits
-returns-then-active-ge-RANK_LIMIT-clause-bits c = rw (← c.self.view_is) (all_ranks c.self.inside.bits c.args.active (le-leb 64 c.args.active c.if-active-ge-RANK_LIMIT.true))
+returns-then-active-ge-RANK_LIMIT-clause-bits c = rw (← c.self.view_is)
+    (all_ranks c.self.inside.bits c.args.active (le-leb 64 c.args.active c.if-active-ge-RANK_LIMIT.true))

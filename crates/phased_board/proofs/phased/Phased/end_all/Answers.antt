@@ -31,8 +31,12 @@ loop-number-preserved g c =
                 subst (λ (x : ℕ). request_of new.state.cluster x ≡ None) same (w.end_once.ensures.ended (both ok).1)))
                 w.end_once.ensures.others (inv.over (both ok).0);
             others = λ t gone. w.end_once.ensures.others t (inv.others t gone);
-            history = (inv.history.0 ++ more.0, more.1 ∙ (ap (λ (h : List Entry). h ++ more.0) inv.history.1 ∙ append_assoc first.history inv.history.0 more.0));
-            refused = either_met g.K.Phase.before new.history c.loop-number.ended w.end_once.result w.first_refusal-ended.result w.first_refusal-ended.ensures.either
+            history = (
+              inv.history.0 ++ more.0,
+              more.1 ∙ (ap (λ (h : List Entry). h ++ more.0) inv.history.1 ∙ append_assoc first.history inv.history.0 more.0),
+            );
+            refused = either_met g.K.Phase.before new.history c.loop-number.ended w.end_once.result w.first_refusal-ended.result
+                w.first_refusal-ended.ensures.either
                 (end_later g.K.Phase.before old.history new.history c.loop-number.ended (more.0, sym more.1) inv.refused) w.end_once.ensures.refused;
           }
       | in_default w ↦

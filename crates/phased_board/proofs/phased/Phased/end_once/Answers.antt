@@ -13,8 +13,12 @@ pub returns-in-Ok-clause-others : goal.returns-in-Ok-clause-others
 returns-in-Ok-clause-others g c = others_ended c.args.self.now c.end.new.self c.args.ticket _ c.in-Ok.ensures.answer
 
 pub returns-in-Err-clause-refused : goal.returns-in-Err-clause-refused
-returns-in-Err-clause-refused g c =
-    (c.args.ticket, c.in-Err.ensures.refused, other_cause c.args.self.now.state c.args.ticket c.in-Err.error c.in-Err.ensures.answer.0 (λ is. (let yes : IsTrue c.has_ended.result = c.has_ended.ensures.1 is in let no = c.if-has_ended.false in cc)))
+returns-in-Err-clause-refused g c = (
+  c.args.ticket,
+  c.in-Err.ensures.refused,
+  other_cause c.args.self.now.state c.args.ticket c.in-Err.error c.in-Err.ensures.answer.0
+      (λ is. (let yes : IsTrue c.has_ended.result = c.has_ended.ensures.1 is in let no = c.if-has_ended.false in cc)),
+)
 
 pub returns-then-has_ended-clause-history : goal.returns-then-has_ended-clause-history
 returns-then-has_ended-clause-history g c = ([], sym (append-nil c.args.self.now.history))

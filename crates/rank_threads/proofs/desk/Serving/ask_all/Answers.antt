@@ -25,16 +25,22 @@ loop-script-init g c =
 
 pub ask-requires-clause-empty : goal.ask-requires-clause-empty
 ask-requires-clause-empty g c κs within =
-    let z = rooms_last c.loop-script.left.now c.in-Some.before.now c.in-Some.script.now c.loop-script.rooms.items c.last_desk-desk.new.rooms.items c.last_desk-desk.result.answers c.in-Some.ensures.cases.0 c.last_desk-desk.ensures.room c.loop-script.invariant.roomy in z.1.0
+    let z = rooms_last c.loop-script.left.now c.in-Some.before.now c.in-Some.script.now c.loop-script.rooms.items
+    c.last_desk-desk.new.rooms.items c.last_desk-desk.result.answers c.in-Some.ensures.cases.0 c.last_desk-desk.ensures.room
+    c.loop-script.invariant.roomy in z.1.0
 
 pub ask-requires-clause-room : goal.ask-requires-clause-room
 ask-requires-clause-room g c κs within =
-    let z = rooms_last c.loop-script.left.now c.in-Some.before.now c.in-Some.script.now c.loop-script.rooms.items c.last_desk-desk.new.rooms.items c.last_desk-desk.result.answers c.in-Some.ensures.cases.0 c.last_desk-desk.ensures.room c.loop-script.invariant.roomy in z.1.1
+    let z = rooms_last c.loop-script.left.now c.in-Some.before.now c.in-Some.script.now c.loop-script.rooms.items
+    c.last_desk-desk.new.rooms.items c.last_desk-desk.result.answers c.in-Some.ensures.cases.0 c.last_desk-desk.ensures.room
+    c.loop-script.invariant.roomy in z.1.1
 
 pub loop-script-preserved : goal.loop-script-preserved
 loop-script-preserved g c =
     let inv = c.loop-script.invariant in
-    let z = rooms_last c.loop-script.left.now c.in-Some.before.now c.in-Some.script.now c.loop-script.rooms.items c.last_desk-desk.new.rooms.items c.last_desk-desk.result.answers c.in-Some.ensures.cases.0 c.last_desk-desk.ensures.room inv.roomy in
+    let z = rooms_last c.loop-script.left.now c.in-Some.before.now c.in-Some.script.now c.loop-script.rooms.items
+    c.last_desk-desk.new.rooms.items c.last_desk-desk.result.answers c.in-Some.ensures.cases.0 c.last_desk-desk.ensures.room
+    inv.roomy in
     let fewer = c.last_desk-desk.ensures.fewer in
     let shorter = c.in-Some.ensures.cases.1 in
     let way = g.W.Route.way in
@@ -53,8 +59,10 @@ loop-script-preserved g c =
     let hands : hands_of c.loop-script.shares.items (map way c.loop-script.ways.items) ≡ hands_of shares (map way ways) ++ hand ∷ [] =
     rw (c.last_desk-desk.ensures.share, c.last_desk-desk.ensures.way, some_left) (hands_last shares (map way ways) desk.share (way desk.way) even) in
     record {
-      from = more_asked c.args.scripts.now (hands_of c.args.laid.shares.items (map way c.args.laid.ways.items)) c.loop-script.left.now c.in-Some.before.now c.in-Some.script.now
-          (hands_of c.loop-script.shares.items (map way c.loop-script.ways.items)) (hands_of shares (map way ways)) hand c.loop-script.asked.items c.push_reserved.new.self.items inv.from c.in-Some.ensures.cases.0 hands told;
+      from = more_asked c.args.scripts.now (hands_of c.args.laid.shares.items (map way c.args.laid.ways.items)) c.loop-script.left.now
+          c.in-Some.before.now c.in-Some.script.now
+          (hands_of c.loop-script.shares.items (map way c.loop-script.ways.items)) (hands_of shares (map way ways)) hand
+          c.loop-script.asked.items c.push_reserved.new.self.items inv.from c.in-Some.ensures.cases.0 hands told;
       few = omega arith;
       equal = omega arith;
       ways = omega arith;
@@ -74,4 +82,6 @@ returns-clause-asked g c =
     let even : length c.loop-script.shares.items ≡ length (map g.W.Route.way c.loop-script.ways.items) = omega arith in
     let long = hands_long c.loop-script.shares.items (map g.W.Route.way c.loop-script.ways.items) even in
     let none_hands : length (hands_of c.loop-script.shares.items (map g.W.Route.way c.loop-script.ways.items)) ≡ 0 = omega arith in
-    all_asked c.args.scripts.now (hands_of c.args.laid.shares.items (map g.W.Route.way c.args.laid.ways.items)) c.loop-script.left.now (hands_of c.loop-script.shares.items (map g.W.Route.way c.loop-script.ways.items)) c.loop-script.asked.items c.loop-script.invariant.from none none_hands
+    all_asked c.args.scripts.now (hands_of c.args.laid.shares.items (map g.W.Route.way c.args.laid.ways.items)) c.loop-script.left.now
+    (hands_of c.loop-script.shares.items (map g.W.Route.way c.loop-script.ways.items)) c.loop-script.asked.items
+    c.loop-script.invariant.from none none_hands

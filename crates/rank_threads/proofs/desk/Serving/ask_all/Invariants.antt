@@ -8,7 +8,8 @@ use Rattle.rank_threads.proofs.desk.Serving.ask_all.Given as goal
 -- the ranks from here on were asked
 abbrev pub invariant-loop-script : goal.invariant-loop-script
 invariant-loop-script g l = record {
-  from : AreAsked l.scripts (hands_of l.fn.laid.shares.items (map g.W.Route.way l.fn.laid.ways.items)) l.left (hands_of l.shares.items (map g.W.Route.way l.ways.items)) l.asked.items;
+  from : AreAsked l.scripts (hands_of l.fn.laid.shares.items (map g.W.Route.way l.fn.laid.ways.items)) l.left
+      (hands_of l.shares.items (map g.W.Route.way l.ways.items)) l.asked.items;
   few : length l.left ≤ 64;
   equal : vec_len l.shares ≡ length l.left;
   ways : vec_len l.ways ≡ length l.left;
@@ -16,7 +17,8 @@ invariant-loop-script g l = record {
   roomy : AllZip IsRoomFor l.left l.rooms.items;
   count : length l.left + vec_len l.asked ≡ length l.scripts;
   place : length l.scripts ≤ vec_capacity l.asked;
-  capacity : (vec_capacity l.shares ≡ vec_capacity l.fn.laid.shares) × (vec_capacity l.ways ≡ vec_capacity l.fn.laid.ways) × (vec_capacity l.rooms ≡ vec_capacity l.fn.laid.rooms);
+  capacity : (vec_capacity l.shares ≡ vec_capacity l.fn.laid.shares) × (vec_capacity l.ways ≡ vec_capacity l.fn.laid.ways)
+      × (vec_capacity l.rooms ≡ vec_capacity l.fn.laid.rooms);
 }
 
 abbrev pub decreases-loop-script : goal.decreases-loop-script

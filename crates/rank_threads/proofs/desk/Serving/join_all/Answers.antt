@@ -22,7 +22,8 @@ loop-rank-init g c =
     let ways = ap length none.1 in
     let answers = ap (λ (xs : List (Vec WorkAnswer Global)). length xs) none.2 in
     record {
-      joined = λ hs ws e h. rw (none.0, none.2, c.requires.given) (none_joined g.J.Naming.limit g.K.Phase.before c.args.ranks.known.seen hs ws c.args.asked.items e h);
+      joined = λ hs ws e h. rw (none.0, none.2, c.requires.given)
+          (none_joined g.J.Naming.limit g.K.Phase.before c.args.ranks.known.seen hs ws c.args.asked.items e h);
       even = rw (none.0, none.1) refl;
       apart = rw c.requires.given tt;
       clean = λ ok. rw none.0 (All-nil (λ (s : ShareData). IsClean s));
@@ -56,8 +57,10 @@ loop-rank-preserved g c =
     let hands = hands_last c.loop-rank.ranks.shares.items (map way c.loop-rank.ranks.ways.items) last.0 (way done.way) level in
     record {
       joined = λ hs ws e h. rw (answers, last.3, said.way, some_ways, hands)
-          (one_joined g.J.Naming.limit g.K.Phase.before c.loop-rank.ranks.known.seen done.known.seen c.with_desk-ranks.result.known.seen hs ws c.loop-rank.asked.items c.pop.new.self.items c.in-Some.rank (items c.loop-rank.ranks.answers.items) done.answers.items
-          (hands_of c.loop-rank.ranks.shares.items (map way c.loop-rank.ranks.ways.items)) mid hand c.loop-rank.ranks.known.tickets done.known.tickets c.with_desk-ranks.result.known.tickets
+          (one_joined g.J.Naming.limit g.K.Phase.before c.loop-rank.ranks.known.seen done.known.seen c.with_desk-ranks.result.known.seen hs
+          ws c.loop-rank.asked.items c.pop.new.self.items c.in-Some.rank (items c.loop-rank.ranks.answers.items) done.answers.items
+          (hands_of c.loop-rank.ranks.shares.items (map way c.loop-rank.ranks.ways.items)) mid hand c.loop-rank.ranks.known.tickets
+          done.known.tickets c.with_desk-ranks.result.known.tickets
           (inv.joined hs ws e h) order c.join-done.ensures last.1 refl said.seen said.tickets);
       even = omega arith;
       apart = said.apart;
@@ -83,6 +86,13 @@ returns g c =
           let long = hands_long ss vs same in
           let as_many : length (hands_of ss vs) ≡ length ws = omega arith in
           let joined = inv.joined (hands_of ss vs) ws as_many h in
-          let both = all_joined g.J.Naming.limit g.K.Phase.before ranks.known.seen ss vs ws c.loop-rank.asked.items (items ranks.answers.items) ranks.shares.items (map way ranks.ways.items) ranks.known.tickets same level joined none in
-          record { returned = both.0; answered = both.1; apart = subst (λ (ts : List ℕ). AreApart ts) joined.given inv.apart; clean = inv.clean; told = inv.told });
+          let both = all_joined g.J.Naming.limit g.K.Phase.before ranks.known.seen ss vs ws c.loop-rank.asked.items
+          (items ranks.answers.items) ranks.shares.items (map way ranks.ways.items) ranks.known.tickets same level joined none in
+          record {
+            returned = both.0;
+            answered = both.1;
+            apart = subst (λ (ts : List ℕ). AreApart ts) joined.given inv.apart;
+            clean = inv.clean;
+            told = inv.told;
+          });
     }

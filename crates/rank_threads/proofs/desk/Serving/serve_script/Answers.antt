@@ -1,5 +1,6 @@
 use Rattle.std.specs.List.{AllZip}
-use Rattle.std.proofs.Common.{◌≡◌, ◌∷◌, ◌∙◌, ◌++◌, ◌⊎◌, [], ℕ, Bool, List, Vec, Global, vec_capacity, false, true, inl, inr, length, take, ap, refl, sym, subst, arith, length-append}
+use Rattle.std.proofs.Common.{◌≡◌, ◌∷◌, ◌∙◌, ◌++◌, ◌⊎◌, [], ℕ, Bool, List, Vec, Global, vec_capacity}
+use Rattle.std.proofs.Common.{false, true, inl, inr, length, take, ap, refl, sym, subst, arith, length-append}
 use Rattle.std.proofs.lemmas.List.{take_all, take_more}
 use Rattle.std.proofs.lemmas.List.Elements.{All-nil, All-push}
 use Rattle.rank_threads.specs.declared.work.Work.{Work}
@@ -48,7 +49,8 @@ loop-number-preserved g c =
     let number = c.loop-number.number in
     let longer = take_more c.args.script.now number work c.loop-number-test.true in record {
       served = rw (all, longer, sym c.index-script-number.is)
-          (served_more g.J.Naming.limit c.args.done.now.share c.loop-number.done.share c.answer_to-answer.new.done.share (take number c.args.script.now) answers work a i.served said.fits said.short said.counted);
+          (served_more g.J.Naming.limit c.args.done.now.share c.loop-number.done.share c.answer_to-answer.new.done.share
+          (take number c.args.script.now) answers work a i.served said.fits said.short said.counted);
       as_many = omega arith;
       answered = λ has. rw (all, longer, sym c.index-script-number.is)
           (zip_more (IsAnswered before c.answer_to-answer.new.done.known.seen old new) (take number c.args.script.now) answers work a
@@ -57,7 +59,8 @@ loop-number-preserved g c =
           (one_since before c.answer_to-answer.new.done.known.seen old mid new work a i.held (said.answered has)));
       refused = λ none. rw all (All-push (λ (b : WorkAnswer). b ≡ no_thread) answers a (i.refused none) (said.refused none));
       held = held_further old mid new i.held said.held;
-      given = said.given ∙ (ap (λ (ts : List ℕ). ts ++ ticket_named a.ticket) i.given ∙ (sym (tickets_more answers a) ∙ ap (λ (l : List WorkAnswer). tickets_of l) (sym all)));
+      given = said.given ∙ (ap (λ (ts : List ℕ). ts ++ ticket_named a.ticket) i.given
+          ∙ (sym (tickets_more answers a) ∙ ap (λ (l : List WorkAnswer). tickets_of l) (sym all)));
       room = omega arith;
     }
 
@@ -65,8 +68,12 @@ pub returns : goal.returns
 returns g c =
     let i = c.loop-number.invariant in
     let whole = take_all c.loop-number.number c.args.script.now (omega arith) in record {
-      served = subst (λ (ws : List Work). IsServed g.J.Naming.limit c.args.done.now.share ws c.loop-number.done.answers.items c.loop-number.done.share) whole i.served;
-      answered = answered_by c.args.has_thread (λ has. subst (λ (ws : List Work). AllZip (IsAnswered g.K.Phase.before c.loop-number.done.known.seen (g.W.Route.way c.args.done.now.way) (g.W.Route.way c.loop-number.done.way)) ws c.loop-number.done.answers.items) whole (i.answered has)) i.refused;
+      served = subst (λ (ws : List Work). IsServed g.J.Naming.limit c.args.done.now.share ws c.loop-number.done.answers.items
+          c.loop-number.done.share) whole i.served;
+      answered = answered_by c.args.has_thread
+          (λ has. subst (λ (ws : List Work). AllZip
+          (IsAnswered g.K.Phase.before c.loop-number.done.known.seen (g.W.Route.way c.args.done.now.way)
+          (g.W.Route.way c.loop-number.done.way)) ws c.loop-number.done.answers.items) whole (i.answered has)) i.refused;
       held = i.held;
       given = i.given;
     }

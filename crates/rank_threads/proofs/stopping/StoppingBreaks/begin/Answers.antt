@@ -17,13 +17,15 @@ loop-stop-preserved g c =
           rw w.self-is record {
             stops = rw w.stop.ensures.stops inv.stops;
             all = inv.all;
-            so_far = one_more c.args.begun at g.K.Phase.before c.loop-stop.self.known.seen w.stop.new.self.known.seen stops c.loop-stop.self.told w.stop.new.self.told stop w.stop.ensures.seen
+            so_far = one_more c.args.begun at g.K.Phase.before c.loop-stop.self.known.seen w.stop.new.self.known.seen stops
+                c.loop-stop.self.told w.stop.new.self.told stop w.stop.ensures.seen
                 w.stop.ensures.kept is (rank_named stops at stop near is) w.stop.ensures.told w.stop.ensures.met inv.so_far;
           }
       | else-stop-begun w ↦
           rw w.self-is record {
             stops = inv.stops;
             all = inv.all;
-            so_far = passed_over c.args.begun at g.K.Phase.before c.loop-stop.self.known.seen stops c.loop-stop.self.told stop is w.if-stop-begun.false inv.so_far;
+            so_far = passed_over c.args.begun at g.K.Phase.before c.loop-stop.self.known.seen stops c.loop-stop.self.told stop is
+                w.if-stop-begun.false inv.so_far;
           }
     ]

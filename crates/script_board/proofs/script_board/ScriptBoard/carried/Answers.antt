@@ -5,4 +5,5 @@ use Rattle.script_board.proofs.script_board.ScriptBoard.carried.Goals as goal
 
 pub returns-clause-one_line : goal.returns-clause-one_line
 returns-clause-one_line g c =
-    subst (λ (rs : List (List Operation)). All (λ r. IsPrefix r c.args.board.now.published ⊎ IsPrefix c.args.board.now.published r) rs) c.deref.ensures.value c.compare.ensures
+    subst (λ (rs : List (List Operation)). All (λ r. IsPrefix r c.args.board.now.published ⊎ IsPrefix c.args.board.now.published r) rs)
+    c.deref.ensures.value c.compare.ensures

@@ -13,19 +13,34 @@ use Rattle.script_board.proofs.script_board.ScriptBoard.carry_out_moves.Goals as
 
 pub returns-in-Ok-done-clause-done : goal.returns-in-Ok-done-clause-done
 returns-in-Ok-done-clause-done g c =
-    let old : BoardData = record { world = c.self.inside.board; shares = c.self.inside.shares.items; loads = c.self.inside.loads.items; kept = c.self.inside.kept.items; stops = c.self.inside.stops.items } in
+    let old : BoardData = record {
+      world = c.self.inside.board;
+      shares = c.self.inside.shares.items;
+      loads = c.self.inside.loads.items;
+      kept = c.self.inside.kept.items;
+      stops = c.self.inside.stops.items;
+    } in
     let now : World = c.export_phase_with_stops-board.result.0 in
-    let new : BoardData = record { world = now; shares = c.self.inside.shares.items; loads = c.self.inside.loads.items; kept = c.new.result.items; stops = c.new-in-Ok-done.result.items } in
+    let new : BoardData = record {
+      world = now;
+      shares = c.self.inside.shares.items;
+      loads = c.self.inside.loads.items;
+      kept = c.new.result.items;
+      stops = c.new-in-Ok-done.result.items;
+    } in
     let refused : List Fault = c.tell_rest.new.refused.items in
     let stopped = c.in-Ok-done.exported.stopped in
     subst (λ (b : BoardData). IsMoved c.args.self refused c.in-Ok.planned.0.items c.in-Ok-done.exported.outcomes.items b) (sym c.whole-after.ensures)
     (subst (λ (b : BoardData). IsMoved b refused c.in-Ok.planned.0.items c.in-Ok-done.exported.outcomes.items new) c.self.view_is (record {
       stopped = stopped;
       orders = c.in-Ok.ensures.orders ∙ ap move_orders (sym c.self.view_is);
-      went = subst (λ (l : List RankStop). WentOnWithStops false true (ranks_of l) old.world now) c.deref-2.ensures.value c.export_phase_with_stops-board.ensures.board;
-      stop = subst (λ (l : List RankStop). AreStopped 8 old.world now.history l stopped) c.deref-2.ensures.value (rw c.in-Ok-done.is at c.export_phase_with_stops-board.ensures.stopped);
+      went = subst (λ (l : List RankStop). WentOnWithStops false true (ranks_of l) old.world now) c.deref-2.ensures.value
+          c.export_phase_with_stops-board.ensures.board;
+      stop = subst (λ (l : List RankStop). AreStopped 8 old.world now.history l stopped) c.deref-2.ensures.value
+          (rw c.in-Ok-done.is at c.export_phase_with_stops-board.ensures.stopped);
       met = c.tell_rest.ensures.told ∙ ap (λ (l : List Fault). l ++ unless_done stopped) c.in-Ok.ensures.none;
-      outcomes = subst (λ (l : List Order). AreOutcomes old.world now l c.in-Ok-done.exported.outcomes.items) c.deref.ensures.value (rw c.in-Ok-done.is at c.export_phase_with_stops-board.ensures.outcomes);
+      outcomes = subst (λ (l : List Order). AreOutcomes old.world now l c.in-Ok-done.exported.outcomes.items) c.deref.ensures.value
+          (rw c.in-Ok-done.is at c.export_phase_with_stops-board.ensures.outcomes);
       all = rw c.in-Ok-done.is at c.export_phase_with_stops-board.ensures.all;
       forgotten = c.new.ensures.items;
       used = c.new-in-Ok-done.ensures.items;

@@ -18,7 +18,9 @@ loop-number-preserved g c =
           let is : is_there es n ≡ true = rw c.new-dir.ensures at (sym c.contains.ensures.there ∙ w.if-contains.true) in
           record {
             dirs = rw (w.dirs-is, w.in_ok-push.ensures.items, c.loop-number.invariant.dirs, c.new-dir.ensures, more, is) refl;
-            inside = all_more (λ d. d < c.args.self.now.world.state.directories.limit) c.loop-number.dirs.items c.if-contains.dirs.items c.new-dir.result (rw (w.dirs-is, w.in_ok-push.ensures.items) refl) c.loop-number.invariant.inside (c.contains.ensures.below w.if-contains.true);
+            inside = all_more (λ d. d < c.args.self.now.world.state.directories.limit) c.loop-number.dirs.items c.if-contains.dirs.items
+                c.new-dir.result (rw (w.dirs-is, w.in_ok-push.ensures.items) refl) c.loop-number.invariant.inside
+                (c.contains.ensures.below w.if-contains.true);
           }
       | else-contains w ↦
           let is : is_there es n ≡ false = rw c.new-dir.ensures at (sym c.contains.ensures.there ∙ w.if-contains.false) in

@@ -33,24 +33,44 @@ invariant_of-after g c =
 
 pub returns-clause-done : goal.returns-clause-done
 returns-clause-done g c =
-    let old : BoardData = record { world = c.before-2.inside.board; shares = c.before-2.inside.shares.items; loads = c.before-2.inside.loads.items; kept = c.before-2.inside.kept.items; stops = c.before-2.inside.stops.items } in
+    let old : BoardData = record {
+      world = c.before-2.inside.board;
+      shares = c.before-2.inside.shares.items;
+      loads = c.before-2.inside.loads.items;
+      kept = c.before-2.inside.kept.items;
+      stops = c.before-2.inside.stops.items;
+    } in
     let as_before : old ≡ c.args.self = c.before-2.view_is in
-    let new : List ShareData → BoardData = λ shares. record { world = c.serve_with_totals-board.result.0; shares = shares; loads = c.clear.new.self.items; kept = c.before-2.inside.kept.items; stops = c.before-2.inside.stops.items } in
+    let new : List ShareData → BoardData = λ shares. record {
+      world = c.serve_with_totals-board.result.0;
+      shares = shares;
+      loads = c.clear.new.self.items;
+      kept = c.before-2.inside.kept.items;
+      stops = c.before-2.inside.stops.items;
+    } in
     let limit : g.J.Naming.limit ≡ old.world.state.directories.limit = sym c.limit-limit.ensures.named ∙ c.limit-limit.ensures.limit in
     let seats : List Seat = c.in-Ok.prepared.0.seats.items in
     let answers : List (List WorkAnswer) = map (λ (a : Vec WorkAnswer Global). a.items) c.in-Ok-done.ranks.answers.items in
     let scripts : List (List Work) = map (λ (s : Vec Work Global). s.items) c.deref.result.now in
     let dealt : IsDealt old.world (length old.shares) (waiting old) scripts seats =
-    subst (λ (l : List (Vec Work Global)). IsDealt old.world (length old.shares) (waiting old) (map (λ (s : Vec Work Global). s.items) l) seats) (sym c.deref.ensures.value)
-    (subst (λ (b : BoardData). IsDealt b.world (length b.shares) (waiting b) (map (λ (s : Vec Work Global). s.items) c.in-Ok.prepared.0.scripts.items) seats) (sym as_before) c.in-Ok.ensures.dealt) in
+    subst (λ (l : List (Vec Work Global)). IsDealt old.world (length old.shares) (waiting old) (map (λ (s : Vec Work Global). s.items) l)
+    seats) (sym c.deref.ensures.value)
+    (subst (λ (b : BoardData). IsDealt b.world (length b.shares) (waiting b)
+    (map (λ (s : Vec Work Global). s.items) c.in-Ok.prepared.0.scripts.items) seats) (sym as_before) c.in-Ok.ensures.dealt) in
     let ranks : length c.deref.result.now ≡ length old.shares = sym (length-map c.deref.result.now (λ (s : Vec Work Global). s.items)) ∙ dealt.as_many in
-    let served : AreServed g.J.Naming.limit old.world c.serve_with_totals-board.result.0.history old.shares (own_ranks 0 (length old.shares)) scripts answers c.in-Ok-done.ranks.shares.items (own_ranks 0 (length old.shares)) c.in-Ok-done.ranks.deposited =
-    subst (λ (n : ℕ). AreServed g.J.Naming.limit old.world c.serve_with_totals-board.result.0.history old.shares (own_ranks 0 n) scripts answers c.in-Ok-done.ranks.shares.items (own_ranks 0 n) c.in-Ok-done.ranks.deposited) ranks
+    let served : AreServed g.J.Naming.limit old.world c.serve_with_totals-board.result.0.history old.shares
+    (own_ranks 0 (length old.shares)) scripts answers c.in-Ok-done.ranks.shares.items (own_ranks 0 (length old.shares))
+    c.in-Ok-done.ranks.deposited =
+    subst (λ (n : ℕ). AreServed g.J.Naming.limit old.world c.serve_with_totals-board.result.0.history old.shares (own_ranks 0 n) scripts
+    answers c.in-Ok-done.ranks.shares.items (own_ranks 0 n) c.in-Ok-done.ranks.deposited) ranks
     (rw c.in-Ok-done.is at c.serve_with_totals-board.ensures.served) in
     subst (λ (shares : List ShareData). IsGone c.args.self c.told-shares.result.1.items (new shares)) (sym c.told-shares.ensures.shares)
     (subst (λ (b : BoardData). IsGone b c.told-shares.result.1.items (new c.in-Ok-done.ranks.shares.items)) as_before (
-      served_by false [] g.J.Naming.limit (own_ranks 0 (length old.shares)) (own_ranks 0 (length old.shares)) old (new c.in-Ok-done.ranks.shares.items) c.told-shares.result.1.items scripts seats answers
-          c.in-Ok-done.ranks.ended c.in-Ok-done.ranks.deposited limit dealt served (rw c.in-Ok-done.is at c.serve_with_totals-board.ensures.totals) (rw c.in-Ok-done.is at c.serve_with_totals-board.ensures.ended)
+      served_by false [] g.J.Naming.limit (own_ranks 0 (length old.shares)) (own_ranks 0 (length old.shares)) old
+          (new c.in-Ok-done.ranks.shares.items) c.told-shares.result.1.items scripts seats answers
+          c.in-Ok-done.ranks.ended c.in-Ok-done.ranks.deposited limit dealt served
+          (rw c.in-Ok-done.is at c.serve_with_totals-board.ensures.totals)
+          (rw c.in-Ok-done.is at c.serve_with_totals-board.ensures.ended)
           c.serve_with_totals-board.ensures.board c.told-shares.ensures.told,
       c.clear.ensures.items,
       refl,

@@ -16,13 +16,24 @@ pub returns-clause-done : goal.returns-clause-done
 returns-clause-done g c =
     let done = c.in_ok-self-inside.ensures.ok in
     let kept : List Order = c.in_ok-self-inside.field-0.items in
-    subst (λ (b : BoardData). (plan : Plan) × IsPlanned b plan (record { world = c.balance.new.self; shares = c.self.inside.shares.items; loads = c.self.inside.loads.items; kept = kept; stops = c.self.inside.stops.items })) c.self.view_is (
+    subst (λ (b : BoardData). (plan : Plan) × IsPlanned b plan
+    (record {
+      world = c.balance.new.self;
+      shares = c.self.inside.shares.items;
+      loads = c.self.inside.loads.items;
+      kept = kept;
+      stops = c.self.inside.stops.items;
+    })) c.self.view_is (
       done.0,
       record {
         best = done.1;
         certified = done.2;
         keeps = done.3.0;
         fewer = done.3.1;
-        adopted = rw (done.6, same_orders kept (plan_orders c.self.inside.board.state (dirs_of c.self.inside.board.state) done.0) (done.5 ∙ balance_reply c.self.inside.board.state done.0)) refl;
+        adopted = rw (
+          done.6,
+          same_orders kept (plan_orders c.self.inside.board.state (dirs_of c.self.inside.board.state) done.0)
+              (done.5 ∙ balance_reply c.self.inside.board.state done.0),
+        ) refl;
       },
     )

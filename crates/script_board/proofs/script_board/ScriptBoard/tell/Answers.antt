@@ -22,12 +22,15 @@ loop-seat-preserved g c =
     ∙ ap (λ (l : List Fault). before ++ l) (sym (refusals_more answers c.args.seats.now i nowhere c.loop-seat-test.true)))) in
     elim c.match-fault_at.branch [
       | in-Some w ↦ record {
-        told = ap (λ (v : Vec Fault Global). v.items) w.refused-is ∙ (w.push_reserved.ensures.items ∙ (ap (λ (o : Option Fault). c.loop-seat.refused.items ++ met o) (sym w.in-Some.is) ∙ all));
+        told = ap (λ (v : Vec Fault Global). v.items) w.refused-is
+            ∙ (w.push_reserved.ensures.items ∙ (ap (λ (o : Option Fault). c.loop-seat.refused.items ++ met o) (sym w.in-Some.is) ∙ all));
         few = rw w.refused-is (omega (arith, inv.few, w.push_reserved.ensures.len));
         room = rw w.refused-is (w.push_reserved.ensures.capacity ∙ inv.room);
       }
       | in_default w ↦ record {
-        told = ap (λ (v : Vec Fault Global). v.items) w.refused-is ∙ (sym (append-nil c.loop-seat.refused.items) ∙ (ap (λ (o : Option Fault). c.loop-seat.refused.items ++ met o) (sym w.in_default.is) ∙ all));
+        told = ap (λ (v : Vec Fault Global). v.items) w.refused-is
+            ∙ (sym (append-nil c.loop-seat.refused.items)
+            ∙ (ap (λ (o : Option Fault). c.loop-seat.refused.items ++ met o) (sym w.in_default.is) ∙ all));
         few = rw w.refused-is (omega (arith, inv.few));
         room = rw w.refused-is inv.room;
       }

@@ -1,4 +1,5 @@
-use Rattle.std.proofs.Common.{◌≡◌, ◌<◌, ◌+◌, ℕ, Bool, false, List, [], ◌∷◌, ◌++◌, Bor, length, map, take, drop, get_or, ap, sym, ◌∙◌, refl, arith, inl, length-set}
+use Rattle.std.proofs.Common.{◌≡◌, ◌<◌, ◌+◌, ℕ, Bool, false, List, [], ◌∷◌, ◌++◌, Bor, length}
+use Rattle.std.proofs.Common.{map, take, drop, get_or, ap, sym, ◌∙◌, refl, arith, inl, length-set}
 use Rattle.std.proofs.lemmas.Result.{err_from_is_err_and}
 use Rattle.std.proofs.lemmas.List.{map_more}
 use Rattle.script_board.specs.Cost.{tops}
@@ -20,7 +21,10 @@ pub returns-in_err-dir-clause-fault : goal.returns-in_err-dir-clause-fault
 returns-in_err-dir-clause-fault g c =
     let e = err_from_is_err_and c.from_residual-in_err-dir.result c.from_residual-in_err-dir.ensures.1 in
     let marked = c.loop-path.invariant.marked in
-    rw (e.1, e.2) (inl (ap (tops c.args.self.now) (paths_at c.args.paths.now c.loop-path.path-index _ c.loop-path-test.true) ∙ tops_end c.args.self.now (map (λ (path : Bor (List ℕ)). path.now) (take c.loop-path.path-index c.args.paths.now)) (map (λ (path : Bor (List ℕ)). path.now) (drop (c.loop-path.path-index + 1) c.args.paths.now)) _ marked.0 c.in_err-dir.field-0.0 marked.1 (sym c.top.ensures.top ∙ c.in_err-dir.was)))
+    rw (e.1, e.2) (inl (ap (tops c.args.self.now) (paths_at c.args.paths.now c.loop-path.path-index _ c.loop-path-test.true)
+    ∙ tops_end c.args.self.now (map (λ (path : Bor (List ℕ)). path.now) (take c.loop-path.path-index c.args.paths.now))
+    (map (λ (path : Bor (List ℕ)). path.now) (drop (c.loop-path.path-index + 1) c.args.paths.now)) _ marked.0 c.in_err-dir.field-0.0
+    marked.1 (sym c.top.ensures.top ∙ c.in_err-dir.was)))
 
 pub loop-path-preserved : goal.loop-path-preserved
 loop-path-preserved g c =
@@ -30,7 +34,10 @@ loop-path-preserved g c =
       size = simp length-set c.loop-path.invariant.size;
       marked = (
         marked.0 ++ c.in_ok-dir.dir ∷ [],
-        ap (tops c.args.self.now) (map_more (λ (path : Bor (List ℕ)). path.now) c.args.paths.now c.loop-path.path-index _ c.loop-path-test.true) ∙ tops_more c.args.self.now (map (λ (path : Bor (List ℕ)). path.now) (take c.loop-path.path-index c.args.paths.now)) _ marked.0 c.in_ok-dir.dir marked.1 (sym c.top.ensures.top ∙ c.in_ok-dir.was),
+        ap (tops c.args.self.now) (map_more (λ (path : Bor (List ℕ)). path.now) c.args.paths.now c.loop-path.path-index _
+            c.loop-path-test.true) ∙ tops_more c.args.self.now
+            (map (λ (path : Bor (List ℕ)). path.now) (take c.loop-path.path-index c.args.paths.now)) _ marked.0 c.in_ok-dir.dir marked.1
+            (sym c.top.ensures.top ∙ c.in_ok-dir.was),
         rw c.number.ensures (marked_more c.loop-path.is_top.items marked.0 c.in_ok-dir.dir inside marked.2),
       );
     }

@@ -37,9 +37,11 @@ put_together-after-requires g c =
     let back : List (List Operation) = c.carried-hands.result.0.1.items in
     let dealt : length (map (λ (s : Vec Work Global). s.items) made) ≡ length c.args.self.shares = c.in-Ok.ensures.dealt.as_many in
     let seen : length c.before-2.inside.shares.items ≡ length c.args.self.shares = ap (λ (b : BoardData). length b.shares) c.before-2.view_is in
-    let asked : length scripts ≡ length (map (λ (s : Vec Work Global). s.items) made) = ap (λ (l : List (Vec Work Global)). length (map (λ (s : Vec Work Global). s.items) l)) c.deref.ensures.value in
+    let asked : length scripts ≡ length (map (λ (s : Vec Work Global). s.items) made) =
+    ap (λ (l : List (Vec Work Global)). length (map (λ (s : Vec Work Global). s.items) l)) c.deref.ensures.value in
     let as_many : length shares ≡ length scripts = size ∙ (seen ∙ (sym dealt ∙ sym asked)) in
-    let ways = answered_ways c.reopen.new.self c.traffic_with_totals-board.result.0.history (hands_of c.before-2.inside.shares.items (map ByMap c.in-Ok-reopen.readers.items)) scripts
+    let ways = answered_ways c.reopen.new.self c.traffic_with_totals-board.result.0.history
+    (hands_of c.before-2.inside.shares.items (map ByMap c.in-Ok-reopen.readers.items)) scripts
     (map (λ (a : Vec WorkAnswer Global). a.items) c.in-Ok-done.traffic.ranks.answers.items) shares (map ByMap later) served.answered as_many in
     let mapped : length (map ByMap later) ≡ length later = length-map later ByMap in
     let given : length back ≡ length later = ap (λ (l : List (List Operation)). length l) c.carried-hands.ensures.readers in
@@ -55,11 +57,23 @@ put_together-after-requires g c =
 
 pub returns-in-Ok-done-clause-done : goal.returns-in-Ok-done-clause-done
 returns-in-Ok-done-clause-done g c =
-    let given : World → BoardData = λ w. record { world = w; shares = c.before-2.inside.shares.items; loads = c.before-2.inside.loads.items; kept = c.before-2.inside.kept.items; stops = c.before-2.inside.stops.items } in
+    let given : World → BoardData = λ w. record {
+      world = w;
+      shares = c.before-2.inside.shares.items;
+      loads = c.before-2.inside.loads.items;
+      kept = c.before-2.inside.kept.items;
+      stops = c.before-2.inside.stops.items;
+    } in
     let old : BoardData = given c.reopen.new.self in
     let as_before : old ≡ c.args.self = ap given c.reopen.ensures.same ∙ c.before-2.view_is in
     let now : World = c.traffic_with_totals-board.result.0 in
-    let new : List ShareData → BoardData = λ shares. record { world = now; shares = shares; loads = c.nothing.result.0.items; kept = c.nothing.result.1.items; stops = c.nothing.result.2.items } in
+    let new : List ShareData → BoardData = λ shares. record {
+      world = now;
+      shares = shares;
+      loads = c.nothing.result.0.items;
+      kept = c.nothing.result.1.items;
+      stops = c.nothing.result.2.items;
+    } in
     let shares : List ShareData = c.in-Ok-done.traffic.ranks.shares.items in
     let held : List (List Operation) = c.in-Ok-reopen.readers.items in
     let later : List (List Operation) = c.in-Ok-done.traffic.readers.items in
@@ -71,15 +85,18 @@ returns-in-Ok-done-clause-done g c =
     let answers : List (List WorkAnswer) = map (λ (a : Vec WorkAnswer Global). a.items) c.in-Ok-done.traffic.ranks.answers.items in
     let scripts : List (List Work) = map (λ (s : Vec Work Global). s.items) c.deref.result.now in
     let dealt : IsDealt old.world (length old.shares) (waiting old) scripts seats =
-    subst (λ (l : List (Vec Work Global)). IsDealt old.world (length old.shares) (waiting old) (map (λ (s : Vec Work Global). s.items) l) seats) (sym c.deref.ensures.value)
-    (subst (λ (b : BoardData). IsDealt b.world (length b.shares) (waiting b) (map (λ (s : Vec Work Global). s.items) c.in-Ok.planned.dealt.scripts.items) seats) (sym as_before) c.in-Ok.ensures.dealt) in
+    subst (λ (l : List (Vec Work Global)). IsDealt old.world (length old.shares) (waiting old) (map (λ (s : Vec Work Global). s.items) l)
+    seats) (sym c.deref.ensures.value)
+    (subst (λ (b : BoardData). IsDealt b.world (length b.shares) (waiting b)
+    (map (λ (s : Vec Work Global). s.items) c.in-Ok.planned.dealt.scripts.items) seats) (sym as_before) c.in-Ok.ensures.dealt) in
     let count = c.in-Ok-reopen.ensures.count in
     let len = c.len-ranks.ensures in
     let many = c.in-Ok-reopen.readers.ok.0 in
     let whole = c.before-2.inside.shares.ok.0 in
     let met : List Fault = refusals answers seats ++ unless_done c.in-Ok-done.traffic.ranks.ended ++ unless_done c.in-Ok-done.traffic.ranks.deposited in
     let stopped = c.in-Ok-done.traffic.stopped in
-    let outcomes : AreOutcomes old.world now c.deref-2.result.now c.in-Ok-done.traffic.outcomes.items = rw c.in-Ok-done.is at c.traffic_with_totals-board.ensures.outcomes in
+    let outcomes : AreOutcomes old.world now c.deref-2.result.now c.in-Ok-done.traffic.outcomes.items =
+    rw c.in-Ok-done.is at c.traffic_with_totals-board.ensures.outcomes in
     let all : AreAll old.world now c.in-Ok-done.traffic.outcomes.items = rw c.in-Ok-done.is at c.traffic_with_totals-board.ensures.all in
     subst (λ (b : BoardData). IsTraffic c.args.self refused orders told b) (sym c.put_together-after.ensures)
     (subst (λ (back : List ShareData). IsTraffic c.args.self refused orders told (new back)) (sym c.carried-hands.ensures.shares)
@@ -94,11 +111,16 @@ returns-in-Ok-done-clause-done g c =
       };
       met = met;
       stopped = stopped;
-      stop = subst (λ (l : List RankStop). AreStopped 8 old.world now.history l stopped) c.deref-3.ensures.value (rw c.in-Ok-done.is at c.traffic_with_totals-board.ensures.stopped);
+      stop = subst (λ (l : List RankStop). AreStopped 8 old.world now.history l stopped) c.deref-3.ensures.value
+          (rw c.in-Ok-done.is at c.traffic_with_totals-board.ensures.stopped);
       all_met = c.carried-hands.ensures.told;
-      served = served_by true old.stops g.J.Naming.limit (map ByMap held) (map ByMap later) old (new shares) met scripts seats answers c.in-Ok-done.traffic.ranks.ended c.in-Ok-done.traffic.ranks.deposited limit dealt
-          (rw c.in-Ok-done.is at c.traffic_with_totals-board.ensures.served) (rw c.in-Ok-done.is at c.traffic_with_totals-board.ensures.totals) (rw c.in-Ok-done.is at c.traffic_with_totals-board.ensures.ended)
-          (subst (λ (l : List RankStop). WentOnWithStops true true (ranks_of l) old.world now) c.deref-3.ensures.value c.traffic_with_totals-board.ensures.board) refl;
+      served = served_by true old.stops g.J.Naming.limit (map ByMap held) (map ByMap later) old (new shares) met scripts seats answers
+          c.in-Ok-done.traffic.ranks.ended c.in-Ok-done.traffic.ranks.deposited limit dealt
+          (rw c.in-Ok-done.is at c.traffic_with_totals-board.ensures.served)
+          (rw c.in-Ok-done.is at c.traffic_with_totals-board.ensures.totals)
+          (rw c.in-Ok-done.is at c.traffic_with_totals-board.ensures.ended)
+          (subst (λ (l : List RankStop). WentOnWithStops true true (ranks_of l) old.world now) c.deref-3.ensures.value
+          c.traffic_with_totals-board.ensures.board) refl;
       orders = c.carried-hands.ensures.orders ∙ (c.in-Ok.ensures.orders ∙ ap move_orders (sym as_before));
       outcomes = subst (λ (os : List Order). AreOutcomes old.world now os told) (c.deref-2.ensures.value ∙ sym c.carried-hands.ensures.orders)
           (subst (λ (ts : List Outcome). AreOutcomes old.world now c.deref-2.result.now ts) (sym c.carried-hands.ensures.outcomes) outcomes);

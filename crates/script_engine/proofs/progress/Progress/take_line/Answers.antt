@@ -6,8 +6,12 @@ use Rattle.script_engine.proofs.progress.Progress.take_line.Goals.{else-strict-v
 use Rattle.script_engine.proofs.progress.Progress.take_line.Goals as goal
 
 pub returns-then-not-self-clause-ok : goal.returns-then-not-self-clause-ok
-returns-then-not-self-clause-ok g c = λ start bytes text stands.
-    ([], stays g.I.Interpreter.answers c.args.strict start bytes text _ _ c.args.part.now stands (over_from _ _ c.if-strict.true c.if-not-self.true) c.requires.line, Appends-nil _)
+returns-then-not-self-clause-ok g c = λ start bytes text stands. (
+  [],
+  stays g.I.Interpreter.answers c.args.strict start bytes text _ _ c.args.part.now stands
+      (over_from _ _ c.if-strict.true c.if-not-self.true) c.requires.line,
+  Appends-nil _,
+)
 
 pub returns-clause-ok : goal.returns-clause-ok
 returns-clause-ok g c = λ start bytes text stands.
@@ -18,7 +22,8 @@ returns-clause-ok g c = λ start bytes text stands.
     let begun = c.in_ok-end_line.ensures.begun in
     let answered = c.in_ok-end_line.ensures.ok (stands.rest ++ c.args.part.now) (holds_line stands.rest _ c.args.part.now _ (stands.open_line going)) in (
       answered.0.text,
-      ends g.I.Interpreter.answers c.args.strict start bytes text c.args.part.now _ c.end_line.new.interpreter c.args.self.now c.end_line.new.self answered.0 stands going c.requires.line answered.1 answered.2 begun.0 begun.1 begun.2,
+      ends g.I.Interpreter.answers c.args.strict start bytes text c.args.part.now _ c.end_line.new.interpreter c.args.self.now
+          c.end_line.new.self answered.0 stands going c.requires.line answered.1 answered.2 begun.0 begun.1 begun.2,
       answered.3,
     )
 
@@ -32,6 +37,7 @@ returns-in_err-end_line-clause-err g c =
     ] in
     let answered = c.in_err-end_line.ensures.err (stands.rest ++ c.args.part.now) (holds_line stands.rest _ c.args.part.now _ (stands.open_line going)) in (
       answered.0.text,
-      breaks g.I.Interpreter.answers c.args.strict start bytes text c.args.part.now _ c.end_line.new.interpreter c.args.self.now answered.0 stands going c.requires.line answered.1,
+      breaks g.I.Interpreter.answers c.args.strict start bytes text c.args.part.now _ c.end_line.new.interpreter c.args.self.now answered.0
+          stands going c.requires.line answered.1,
       answered.2,
     ))

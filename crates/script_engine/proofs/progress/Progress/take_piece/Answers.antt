@@ -29,7 +29,9 @@ loop-end-preserved g c =
           let before = c.loop-end.invariant.3 start bytes text stands in
           let next = c.in_ok-take_line.ensures.ok start (bytes ++ read) (text ++ before.0) before.1 in (
             before.0 ++ next.0,
-            moved g.I.Interpreter.answers c.args.strict start ((bytes ++ read) ++ line) (bytes ++ (read ++ line)) ((text ++ before.0) ++ next.0) (text ++ (before.0 ++ next.0)) _ _ (piece_line bytes read (take n rest)) (append_assoc text before.0 next.0) next.1,
+            moved g.I.Interpreter.answers c.args.strict start ((bytes ++ read) ++ line) (bytes ++ (read ++ line))
+                ((text ++ before.0) ++ next.0) (text ++ (before.0 ++ next.0)) _ _ (piece_line bytes read (take n rest))
+                (append_assoc text before.0 next.0) next.1,
             Appends-trans _ _ _ before.0 next.0 before.2 next.2,
           ),
     )
@@ -41,8 +43,14 @@ returns-clause-ok g c = λ start bytes text stands.
     let none : IsFirstByte (is_byte 10) rest None = rw c.in_default.is at c.memchr.ensures in
     let line : IsLine rest = is_line_whole rest (λ k inside is. none k (omega arith) inside is) in
     let before = c.loop-end.invariant.3 start bytes text stands in
-    let all = adds g.I.Interpreter.answers c.args.strict start (bytes ++ read) (text ++ before.0) _ c.loop-end.self c.hold.new.self rest before.1 line c.hold.ensures.accepted c.hold.ensures.number (λ going. c.hold.ensures.holds before.1.rest (before.1.open_line going)) in
-    (before.0, moved g.I.Interpreter.answers c.args.strict start ((bytes ++ read) ++ rest) (bytes ++ c.args.piece.now) (text ++ before.0) (text ++ before.0) _ _ (append_assoc bytes read rest ∙ ap (λ (t : List ℕ). bytes ++ t) c.loop-end.invariant.2) refl all, before.2)
+    let all = adds g.I.Interpreter.answers c.args.strict start (bytes ++ read) (text ++ before.0) _ c.loop-end.self c.hold.new.self rest
+    before.1 line c.hold.ensures.accepted c.hold.ensures.number
+    (λ going. c.hold.ensures.holds before.1.rest (before.1.open_line going)) in (
+      before.0,
+      moved g.I.Interpreter.answers c.args.strict start ((bytes ++ read) ++ rest) (bytes ++ c.args.piece.now) (text ++ before.0)
+          (text ++ before.0) _ _ (append_assoc bytes read rest ∙ ap (λ (t : List ℕ). bytes ++ t) c.loop-end.invariant.2) refl all,
+      before.2,
+    )
 
 pub returns-in_err-take_line-clause-err : goal.returns-in_err-take_line-clause-err
 returns-in_err-take_line-clause-err g c =
@@ -60,6 +68,7 @@ returns-in_err-take_line-clause-err g c =
     let left = piece_left read rest piece n found.0.high (eqb-true _ _ found.1) c.loop-end.invariant.2 in (
       before.0 ++ next.0,
       broken_after g.I.Interpreter.answers c.args.strict start (bytes ++ piece) text before.0 next.0
-          (subst (λ (b : List ℕ). Broken g.I.Interpreter.answers c.args.strict start b (text ++ before.0) next.0) (piece_whole bytes read line (drop (n + 1) rest) piece left) all),
+          (subst (λ (b : List ℕ). Broken g.I.Interpreter.answers c.args.strict start b (text ++ before.0) next.0)
+          (piece_whole bytes read line (drop (n + 1) rest) piece left) all),
       front_after _ _ _ before.0 next.0 before.2 next.2,
     ))

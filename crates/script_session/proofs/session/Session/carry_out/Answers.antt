@@ -14,7 +14,8 @@ returns-in-Some-clause-done g c =
     let after = c.change.new.board in
     let was : SessionData = record { limit = limit; board = Some c.in-Some.board } in
     let same : was ≡ c.args.self.now = ap (λ (o : Option BoardData). record { limit = limit; board = o }) (sym c.in-Some.is) ∙ c.self.view_is in
-    subst (λ (s : SessionData). IfOk c.change.result (λ done. (ample : Bool) × IsDone s (words.Asks command) (shown_at (Some after) done) ample (record { limit = limit; board = Some after }))) same
+    subst (λ (s : SessionData). IfOk c.change.result (λ done. (ample : Bool)
+    × IsDone s (words.Asks command) (shown_at (Some after) done) ample (record { limit = limit; board = Some after }))) same
     (IfOk-weaker c.change.result _ _ (λ reply done. (done.0, (after, done.1, refl))) c.change.ensures.done)
 
 pub returns-in-Ranks-clause-done : goal.returns-in-Ranks-clause-done

@@ -22,7 +22,9 @@ returns-in_err-write_fault-in-Err-Memory-clause-err g c =
     rw e.1 (λ ample. (
       cut_answer c.args.number (take cut.0 p.lines),
       told_cut c.args.number cut.0 p ample c.args.self.now c.note.new.self cut.1 (c.note.ensures ∙ c.print.ensures.same),
-      front_after (g.W.Write.contents c.args.writer.now) (g.W.Write.contents c.print.new.writer) (g.W.Write.contents c.write_fault.new.writer) (joined (take cut.0 p.lines)) (fault_text c.args.number (words Memory)) cut.2 c.in_err-write_fault-in-Err-Memory.ensures.err,
+      front_after (g.W.Write.contents c.args.writer.now) (g.W.Write.contents c.print.new.writer)
+          (g.W.Write.contents c.write_fault.new.writer) (joined (take cut.0 p.lines)) (fault_text c.args.number (words Memory)) cut.2
+          c.in_err-write_fault-in-Err-Memory.ensures.err,
     ))
 
 pub returns-in-Err-Memory-clause-ok : goal.returns-in-Err-Memory-clause-ok
@@ -32,7 +34,9 @@ returns-in-Err-Memory-clause-ok g c = λ ample.
       cut_answer c.args.number (take cut.0 p.lines),
       told_cut c.args.number cut.0 p ample c.args.self.now c.note.new.self cut.1 (c.note.ensures ∙ c.print.ensures.same),
       refl,
-      Appends-trans (g.W.Write.contents c.args.writer.now) (g.W.Write.contents c.print.new.writer) (g.W.Write.contents c.write_fault.new.writer) (joined (take cut.0 p.lines)) (fault_text c.args.number (words Memory)) cut.2 c.in_ok-write_fault-in-Err-Memory.ensures.ok,
+      Appends-trans (g.W.Write.contents c.args.writer.now) (g.W.Write.contents c.print.new.writer)
+          (g.W.Write.contents c.write_fault.new.writer) (joined (take cut.0 p.lines)) (fault_text c.args.number (words Memory)) cut.2
+          c.in_ok-write_fault-in-Err-Memory.ensures.ok,
     )
 
 pub returns-in-Err-Write-clause-err : goal.returns-in-Err-Write-clause-err
@@ -40,7 +44,8 @@ returns-in-Err-Write-clause-err g c = λ ample.
     let p : Printed = shown_at c.args.self.now.board c.args.done.now in (
       done_answer c.args.number p false,
       told_unpublished c.args.number p ample c.args.self.now c.print.new.self c.print.ensures.same,
-      front_wider (g.W.Write.contents c.args.writer.now) (g.W.Write.contents c.print.new.writer) (joined p.lines) (refusal_lines c.args.number p.refused) (c.print.ensures.write (c.in-Err-Write.is ∙ ap Err c.in-Err-Write.field-0-is)),
+      front_wider (g.W.Write.contents c.args.writer.now) (g.W.Write.contents c.print.new.writer) (joined p.lines)
+          (refusal_lines c.args.number p.refused) (c.print.ensures.write (c.in-Err-Write.is ∙ ap Err c.in-Err-Write.field-0-is)),
     )
 
 pub returns-in_err-write_refused-clause-err : goal.returns-in_err-write_refused-clause-err
@@ -63,7 +68,8 @@ returns-then-not-is_empty-clause-ok g c = λ ample.
     let refused : c.refused-refused.result.now ≡ p.refused = c.refused-refused.ensures ∙ sym (shown_refused c.args.self.now.board c.args.done.now) in
     let mid = g.W.Write.contents c.print.new.writer in
     let last = g.W.Write.contents c.write_refused.new.writer in
-    let some : (length p.refused == 0) ≡ false = ap (λ (faults : List Fault). length faults == 0) (sym refused) ∙ sym c.is_empty.ensures ∙ c.if-not-is_empty.true in (
+    let some : (length p.refused == 0) ≡ false = ap (λ (faults : List Fault). length faults == 0) (sym refused) ∙ sym c.is_empty.ensures
+    ∙ c.if-not-is_empty.true in (
       done_answer c.args.number p ample,
       told_refused c.args.number p ample c.args.self.now c.note-then-not-is_empty.new.self some (c.note-then-not-is_empty.ensures ∙ c.print.ensures.same),
       sym some,
@@ -77,8 +83,11 @@ returns-clause-ok g c = λ ample.
     let refused : c.refused-refused.result.now ≡ p.refused = c.refused-refused.ensures ∙ sym (shown_refused c.args.self.now.board c.args.done.now) in
     let mid = g.W.Write.contents c.print.new.writer in
     let last = g.W.Write.contents c.write_refused.new.writer in
-    let none : (length p.refused == 0) ≡ true = ap (λ (faults : List Fault). length faults == 0) (sym refused) ∙ sym c.is_empty.ensures ∙ c.if-not-is_empty.false in
-    let told = told_accepted c.args.number p ample c.args.self.now c.publish.new.self none (subst (λ (s : SessionData). (c.publish.new.self ≡ published s) ⊎ (c.publish.new.self ≡ s)) c.print.ensures.same c.publish.ensures) in (
+    let none : (length p.refused == 0) ≡ true = ap (λ (faults : List Fault). length faults == 0) (sym refused) ∙ sym c.is_empty.ensures
+    ∙ c.if-not-is_empty.false in
+    let told = told_accepted c.args.number p ample c.args.self.now c.publish.new.self none
+    (subst (λ (s : SessionData). (c.publish.new.self ≡ published s) ⊎ (c.publish.new.self ≡ s)) c.print.ensures.same c.publish.ensures)
+    in (
       told.0,
       told.1,
       told.2,
