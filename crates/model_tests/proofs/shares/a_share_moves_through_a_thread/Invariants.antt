@@ -1,5 +1,5 @@
 use Rattle.proof_names.specs.Names.{no_log}
-use Rattle.board_tests.proofs.shares.a_share_moves_through_a_thread.Given as goal
+use Rattle.model_tests.proofs.shares.a_share_moves_through_a_thread.Given as goal
 
 -- the ledger's name is that of what was opened for it
 abbrev pub ghosts-count_seven : goal.ghosts-count_seven

@@ -1,7 +1,7 @@
 //! Heats compared with a plain list, in which each tick halves all of them.
 
+use crate::random::Random;
 use crate::same::{Sure, holds_in, same_in};
-use exhaustive::Random;
 use heat_decay::Heat;
 use mds_types::Dir;
 use mds_types::limits::HEAT_LIMIT;

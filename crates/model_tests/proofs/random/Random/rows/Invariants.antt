@@ -1,5 +1,5 @@
 use Rattle.std.proofs.Common.{◌≡◌, length}
-use Rattle.exhaustive.proofs.random.Random.rows.Given as goal
+use Rattle.model_tests.proofs.random.Random.rows.Given as goal
 
 -- a row for each turn
 abbrev pub invariant-loop-i : goal.invariant-loop-i

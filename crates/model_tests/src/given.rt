@@ -3,8 +3,8 @@
 //! Each call that takes memory is made again where a growth was refused, so tests that use these hold with any
 //! one growth refused.
 
+use crate::random::Random;
 use crate::same::Sure;
-use exhaustive::Random;
 use mds_types::{Problem, ProblemRow, Rank, RankSet, Row};
 use std::alloc::Global;
 use std::process::Abort;

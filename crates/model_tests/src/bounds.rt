@@ -7,8 +7,8 @@ use crate::cuts::{STAR, STAR_TABLE, cut_within};
 use crate::given::{
     Given, InTable, are_entries, chain, first_ranks, over, problem, random_rows, star,
 };
+use crate::random::Random;
 use crate::same::{Sure, holds_in, same, same_in};
-use exhaustive::Random;
 use mds_types::{CutProof, Problem, ProblemRow};
 use minmax_search::{BestCut, search};
 use std::alloc::Global;

@@ -3,9 +3,11 @@
 //! Each call that takes memory is made again where a growth was refused, so the tests hold with any one
 //! growth refused.
 
+use crate::division::least_greatest_heat;
 use crate::given::{over, random_rows, two_hot};
+use crate::placing::fewest_moved;
+use crate::random::Random;
 use crate::same::{Sure, holds_in, same_in};
-use exhaustive::{Random, fewest_moved, least_greatest_heat};
 use mds_types::{Plan, Problem};
 use plan_checker::check;
 use planner::solve;

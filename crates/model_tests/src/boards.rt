@@ -1,11 +1,11 @@
 //! Random boards and plans, which a plain slow program reads too.
 
 use crate::heats::{add, heat_of};
+use crate::random::Random;
 use crate::same::{Sure, same, same_in};
 use arrayvec::ArrayVec;
 use dir_pins::Pins;
 use dirtree::Tree;
-use exhaustive::Random;
 use heat_decay::Heat;
 use mds_types::{CutProof, Dir, DualProof, Plan, ProblemRow, Rank, RankSet};
 use std::alloc::{AllocError, Global};

@@ -1,5 +1,5 @@
 use Rattle.proof_names.specs.Names.{no_table}
-use Rattle.board_tests.proofs.map.opened.try_trial.Given as goal
+use Rattle.model_tests.proofs.map.opened.try_trial.Given as goal
 
 -- the map's name is that of what was opened for it
 abbrev pub ghosts-on_map : goal.ghosts-on_map

@@ -1,8 +1,8 @@
 //! Orders of random trees, compared with the sets that grow from one directory.
 
+use crate::random::Random;
 use crate::same::{Sure, same_in};
 use dirtree::Tree;
-use exhaustive::Random;
 use mds_types::{Dir, Dirs, Order, Rank};
 use std::alloc::{AllocError, Global};
 use std::process::Abort;
