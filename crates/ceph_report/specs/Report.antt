@@ -20,7 +20,8 @@ use Rattle.ceph_report.specs.declared.facts.BoundTerm.{BoundTerm}
 use Rattle.ceph_report.specs.declared.facts.BoundTerm.TheVariants.{Hottest, Mean, Pinned}
 use Rattle.ceph_report.specs.declared.facts.Facts.{Facts}
 use Rattle.ceph_report.specs.declared.moves.Move.{Move}
-use Rattle.ceph_report.specs.declared.report.TheConstants.{CAVEAT, IDLE, LINES_EACH, NONE_WITHIN, NOTHING, OVER}
+use Rattle.ceph_report.specs.declared.report.TheConstants.{CAVEAT, IDLE, LINES_EACH, NONE_WITHIN, NOTHING}
+use Rattle.ceph_report.specs.declared.notes.TheConstants.{OVER}
 use Rattle.ceph_report.specs.declared.staying.Stay.{Stay}
 use Rattle.ceph_report.specs.declared.staying_text.LeftForm.TheVariants.{Line}
 

@@ -9,6 +9,7 @@ pub mod json;
 pub mod laws;
 pub mod mdbal_script;
 pub mod moves;
+mod notes;
 pub mod picture;
 mod places;
 pub mod plan_check;

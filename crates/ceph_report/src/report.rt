@@ -1,20 +1,16 @@
 //! The report, for people.
-ghost use Rattle.std.specs.Prelude.{◌≡◌, ◌<◌, ◌≤◌, ◌+◌, ◌++◌, OnOk, IfOk, length, nat_lt, slice_get, if◌then◌else◌};
-ghost use Rattle.mds_types.specs.declared.limits.TheConstants.{HEAT_LIMIT};
-ghost use Rattle.ceph_snapshot.specs.Holding.{heat_at};
-ghost use Rattle.ceph_report.specs.Report.{absence, absent_line, absent_lines, bound_lines, brought_line};
-ghost use Rattle.ceph_report.specs.Report.{brought_lines, brought_text, capped_line, capped_lines, capped_text};
-ghost use Rattle.ceph_report.specs.Report.{count_line, folded_line, head_line, heat_lines, hot_count, hottest_line};
-ghost use Rattle.ceph_report.specs.Report.{left_out, mode_text, more_line, move_counts, moves_table, nothing_text};
-ghost use Rattle.ceph_report.specs.Report.{moves_text, over_line, over_lines, over_text, plan_text, rank_heats};
-ghost use Rattle.ceph_report.specs.Report.{rank_inodes, rank_roots, rank_row, rank_table, ratio_text, report};
-ghost use Rattle.ceph_report.specs.Report.{standing_text, term_text};
-ghost use Rattle.ceph_report.specs.Report.{told_line};
+ghost use Rattle.std.specs.Prelude.{◌≡◌, ◌<◌, ◌+◌, ◌++◌, OnOk, IfOk, slice_get, if◌then◌else◌};
+ghost use Rattle.ceph_report.specs.Report.{bound_lines, brought_line, brought_lines, brought_text, count_line};
+ghost use Rattle.ceph_report.specs.Report.{folded_line, head_line, heat_lines, hot_count, hottest_line, left_out};
+ghost use Rattle.ceph_report.specs.Report.{mode_text, more_line, move_counts, moves_table, nothing_text, moves_text};
+ghost use Rattle.ceph_report.specs.Report.{plan_text, rank_heats, rank_inodes, rank_roots, rank_row, rank_table};
+ghost use Rattle.ceph_report.specs.Report.{ratio_text, report, standing_text, term_text, told_line};
 ghost use Rattle.ceph_report.specs.Text.{place_text};
 
-use crate::facts::{BoundTerm, Facts, has_number, number_at};
+use crate::facts::{BoundTerm, Facts, number_at};
 use crate::hours::push_all_hours;
 use crate::moves::Move;
+use crate::notes::{push_all_absent, push_all_capped, push_all_over};
 use crate::spreading::push_advice;
 use crate::staying_text::push_all_left;
 use crate::text::{
@@ -22,7 +18,7 @@ use crate::text::{
     push_text,
 };
 use ceph_snapshot::Directory;
-use mds_types::limits::{HEAT_LIMIT, RANK_LIMIT};
+use mds_types::limits::RANK_LIMIT;
 use std::alloc::{AllocError, Global};
 
 /// How many moves, or directories that are left where they are, have a line each.
@@ -208,10 +204,6 @@ fn push_standing(text: &mut Vec<u8>, count: usize) -> Result<(), AllocError>
     push_text(text, " pins are set already")
 }
 
-/// What comes before the heat of a directory that is hotter than a fair share.
-const OVER: &str =
-    "hotter than a fair share, and no pin divides it (ceph.dir.pin.distributed spreads its fragments):";
-
 /// Adds how many parts there are, and what moves.
 #[tactic(auto, unfolding(crate::specs::Report::move_counts))]
 fn push_move_counts(text: &mut Vec<u8>, facts: &Facts) -> Result<(), AllocError>
@@ -363,126 +355,6 @@ fn push_folded(text: &mut Vec<u8>, count: usize) -> Result<(), AllocError>
     }
     push_number(text, "\n", count as u64)?;
     push_text(text, " directories were folded into their parents\n")
-}
-
-/// Adds the line of a directory that is hotter than a fair share, with what Ceph has for it.
-#[tactic(auto, unfolding(crate::specs::Report::over_text))]
-fn push_over_text(text: &mut Vec<u8>, facts: &Facts, at: usize) -> Result<(), AllocError>
-    ensures { OnOk result (text.new.items ≡ text.old.items ++ over_text facts.now at) }
-{
-    push_heat(text, OVER, facts.free_heat(at))?;
-    push_text(text, "  ")?;
-    push_place(text, facts.directories, at)
-}
-
-/// Adds the line of a directory, if it is hotter than a fair share of all this heat.
-#[tactic(auto, unfolding(crate::specs::Report::over_line))]
-fn push_over(text: &mut Vec<u8>, facts: &Facts, all: u128, at: usize) -> Result<(), AllocError>
-    ensures { OnOk result (text.new.items ≡ text.old.items ++ over_line facts.now all at) }
-{
-    if facts.is_over(all, at) {
-        push_over_text(text, facts, at)
-    } else {
-        Ok(())
-    }
-}
-
-/// Adds the directories that are hotter than a fair share: fewer than there are ranks.
-#[tactic(auto, unfolding(crate::specs::Report::over_lines))]
-fn push_all_over(text: &mut Vec<u8>, facts: &Facts) -> Result<(), AllocError>
-    ensures { OnOk result (text.new.items ≡ text.old.items ++ over_lines facts.now) }
-{
-    let all = facts.heat_now();
-    for at in 0..facts.directories.len() {
-        push_over(text, facts, all, at)?;
-    }
-    Ok(())
-}
-
-/// Why a rank below `max_mds` can't have a part; empty where it can.
-#[tactic(auto, unfolding(crate::specs::Report::absence))]
-fn absence(facts: &Facts, number: u8) -> &'static str
-    ensures { result.now ≡ absence facts.now number }
-{
-    if !has_number(facts.there, number) {
-        " is below max_mds and not in the file system: it gets no part\n"
-    } else if !has_number(facts.active, number) {
-        " is not active: it gets no part\n"
-    } else {
-        ""
-    }
-}
-
-/// Adds the line of a rank below `max_mds`, if it can't have a part.
-#[tactic(auto, unfolding(crate::specs::Report::absent_line))]
-fn push_absent(text: &mut Vec<u8>, facts: &Facts, number: u8) -> Result<(), AllocError>
-    ensures { OnOk result (text.new.items ≡ text.old.items ++ absent_line facts.now number) }
-{
-    let why = absence(facts, number);
-    if why.is_empty() {
-        return Ok(());
-    }
-    push_number(text, "rank ", u64::from(number))?;
-    push_text(text, why)
-}
-
-/// Adds the ranks that get no part.
-#[tactic(auto, unfolding(crate::specs::Report::absent_lines))]
-fn push_all_absent(text: &mut Vec<u8>, facts: &Facts) -> Result<(), AllocError>
-    ensures { OnOk result (text.new.items ≡ text.old.items ++ absent_lines facts.now) }
-{
-    for number in 0..facts.size {
-        push_absent(text, facts, number)?;
-    }
-    Ok(())
-}
-
-/// Whether a directory is hotter than a plan can count.
-fn is_capped(directories: &[Directory], at: usize) -> bool
-    ensures { result ≡ nat_lt HEAT_LIMIT (heat_at directories.now at) }
-{
-    match directories.get(at) {
-        Some(directory) => directory.heat > HEAT_LIMIT,
-        None => false,
-    }
-}
-
-/// Adds the line of a directory whose heat is counted as less than it is.
-#[tactic(auto, unfolding(crate::specs::Report::capped_text))]
-fn push_capped_text(
-    text: &mut Vec<u8>,
-    directories: &[Directory],
-    at: usize,
-) -> Result<(), AllocError>
-    ensures { OnOk result (text.new.items ≡ text.old.items ++ capped_text directories.now at) }
-{
-    let label = "hotter than a plan can count, and counted as ";
-    push_heat(text, label, HEAT_LIMIT)?;
-    push_text(text, ": ")?;
-    push_place(text, directories, at)
-}
-
-/// Adds the line of a directory, if its heat is counted as less than it is.
-#[tactic(auto, unfolding(crate::specs::Report::capped_line))]
-fn push_capped(text: &mut Vec<u8>, directories: &[Directory], at: usize) -> Result<(), AllocError>
-    ensures { OnOk result (text.new.items ≡ text.old.items ++ capped_line directories.now at) }
-{
-    if is_capped(directories, at) {
-        push_capped_text(text, directories, at)
-    } else {
-        Ok(())
-    }
-}
-
-/// Adds the directories whose heat is counted as less than it is.
-#[tactic(auto, unfolding(crate::specs::Report::capped_lines))]
-fn push_all_capped(text: &mut Vec<u8>, directories: &[Directory]) -> Result<(), AllocError>
-    ensures { OnOk result (text.new.items ≡ text.old.items ++ capped_lines directories.now) }
-{
-    for at in 0..directories.len() {
-        push_capped(text, directories, at)?;
-    }
-    Ok(())
 }
 
 /// The last line of the report where nothing is proposed.

@@ -2,7 +2,7 @@ use Rattle.std.proofs.Common.{◌≡◌, ℕ, ap, arith, length, ◌++◌, ◌�
 use Rattle.ceph_report.proofs.Lines.{below_none, below_more, below_same}
 use Rattle.ceph_report.specs.Text.{lines_below}
 use Rattle.ceph_report.specs.Report.{over_line, over_lines}
-use Rattle.ceph_report.proofs.report.push_all_over.Goals as goal
+use Rattle.ceph_report.proofs.notes.push_all_over.Goals as goal
 
 pub loop-at-init : goal.loop-at-init
 loop-at-init c = below_none (over_line c.args.facts.now c.heat_now-all.result) _

@@ -2,7 +2,7 @@ use Rattle.std.proofs.Common.{◌≡◌, arith}
 use Rattle.ceph_report.proofs.Lines.{below_none, below_more, below_same}
 use Rattle.std.proofs.Common.{length}
 use Rattle.ceph_report.specs.Report.{capped_line, capped_lines}
-use Rattle.ceph_report.proofs.report.push_all_capped.Goals as goal
+use Rattle.ceph_report.proofs.notes.push_all_capped.Goals as goal
 
 pub loop-at-init : goal.loop-at-init
 loop-at-init c = below_none (capped_line c.args.directories.now) _

@@ -1,7 +1,7 @@
 use Rattle.std.proofs.Common.{◌∙◌, append_assoc}
 use Rattle.std.proofs.lemmas.Result.{on_ok_weaker}
 use Rattle.ceph_report.specs.Report.{capped_text}
-use Rattle.ceph_report.proofs.report.push_capped_text.Goals as goal
+use Rattle.ceph_report.proofs.notes.push_capped_text.Goals as goal
 
 pub returns : goal.returns
 unfolding capped_text

@@ -1,7 +1,7 @@
 use Rattle.std.proofs.Common.{◌≡◌, arith}
 use Rattle.ceph_report.proofs.Lines.{below_none, below_more, below_same}
 use Rattle.ceph_report.specs.Report.{absent_line, absent_lines}
-use Rattle.ceph_report.proofs.report.push_all_absent.Goals as goal
+use Rattle.ceph_report.proofs.notes.push_all_absent.Goals as goal
 
 pub loop-number-init : goal.loop-number-init
 loop-number-init c = below_none (absent_line c.args.facts.now) _
