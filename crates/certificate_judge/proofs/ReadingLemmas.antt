@@ -1,13 +1,16 @@
 -- What reads do to the bytes that are left.
-use Rattle.std.proofs.Common.{◌≡◌, ◌≢◌, ◌∙◌, ℕ, ◌+◌, ◌-◌, ◌<◌, List, [], ◌++◌, length, take}
-use Rattle.std.proofs.Common.{drop, refl, sym, ap, subst, arith, append_assoc, append-nil, length-append, Option, Some, None}
-use Rattle.std.specs.Io.KnownBytes.{Consumes, IsAtEnd, Keeps, prepend_known}
+use Rattle.std.proofs.Common.{◌≡◌, ◌≢◌, ◌∙◌, ℕ, ◌+◌, ◌-◌, ◌<◌, List, [], ◌++◌, length, take, drop, refl}
+use Rattle.std.proofs.Common.{sym, ap, subst, arith, append_assoc, append-nil, length-append, Option, Some, None, Result, Ok, Err, IfSome}
+use Rattle.std.specs.Io.KnownBytes.{Consumes, IsAtEnd, Keeps, ReadConsumes, prepend_known}
 use Rattle.std.proofs.Math.Seq.{drop-append_seam}
 use Rattle.std.proofs.lemmas.List.{drop-drop, length-take-le, take-append-drop, take_rest}
 use Rattle.std.specs.Prelude.{⊤}
 use Rattle.plan_text.specs.declared.read_error.Expected.{Expected}
 use Rattle.plan_text.specs.declared.read_error.ReadError.{ReadError}
 use Rattle.plan_text.specs.declared.read_error.ReadError.TheVariants.{Line, Memory}
+use Rattle.certificate_judge.specs.Unjudged.{BeginsNone, IsFault, IsFaultOfNext}
+use Rattle.certificate_judge.specs.declared.judge_error.JudgeError.{JudgeError}
+use Rattle.certificate_judge.specs.declared.judge_error.JudgeError.TheVariants.{Text}
 
 pub same : (a : Option (List ℕ)) → Keeps a a
 same None = tt
@@ -18,6 +21,13 @@ still None b c p q = tt
 still (Some x) None c p q = absurd p
 still (Some x) (Some y) None p q = absurd q
 still (Some x) (Some y) (Some z) p q = q ∙ p
+
+-- a read after one that was interrupted
+pub read_again : {E : Type 0} (a b c : Option (List ℕ)) (r : Result ℕ E) (buffer : List ℕ) → Keeps a b → ReadConsumes b c r buffer → ReadConsumes a c r buffer
+read_again None b c (Ok n) buffer k h = (tt, h.1)
+read_again None b c (Err e) buffer k h = tt
+read_again (Some x) None c r buffer k h = absurd k
+read_again (Some x) (Some y) c r buffer k h = subst (λ (t : List ℕ). ReadConsumes (Some t) c r buffer) k h
 
 -- what was read goes to the end of the buffer
 pub grown : (known a b : Option (List ℕ)) (old more new : List ℕ) → Keeps known (prepend_known old a) → Consumes a b more
@@ -77,3 +87,16 @@ pub none_left : (known b : Option (List ℕ)) (old : List ℕ) → Keeps known (
 none_left None b old k end none = tt
 none_left (Some x) None old k end none = absurd k
 none_left (Some x) (Some y) old k end none = sym k ∙ (ap (λ (t : List ℕ). t ++ y) none ∙ end)
+
+pub some_left : (known b : Option (List ℕ)) (old : List ℕ) → Keeps known (prepend_known old b) → IsAtEnd b → old ≢ [] → BeginsNone old
+    → IfSome known (λ bytes. (bytes ≢ []) × BeginsNone bytes)
+some_left None b old k end some none = tt
+some_left (Some x) None old k end some none = absurd k
+some_left (Some x) (Some y) old k end some none =
+    let all : x ≡ old = sym k ∙ (ap (λ (t : List ℕ). old ++ t) end ∙ append-nil old) in
+    subst (λ (t : List ℕ). (t ≢ []) × BeginsNone t) (sym all) (some, none)
+
+pub fault_is : (known b : Option (List ℕ)) (old : List ℕ) (fault : ReadError) (error : JudgeError) → Keeps known (prepend_known old b)
+    → IsAtEnd b → (error ≡ Text fault) × (old ≢ []) → IsFaultOfNext old fault → IsFault known error
+fault_is known b old Memory error k end is none = subst (IsFault known) (sym is.0) tt
+fault_is known b old (Line line expected) error k end is none = subst (IsFault known) (sym is.0) (some_left known b old k end is.1 none)
