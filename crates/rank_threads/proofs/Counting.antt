@@ -1,13 +1,14 @@
 -- What answers count in a share, one after another.
 use Rattle.std.proofs.Common.{◌≡◌, ◌≢◌, ℕ, ◌+◌, ◌<◌, ◌==◌, Bool, true, false, List, [], ◌∷◌, ◌++◌, length, Some, refl, sym, ◌∙◌, arith}
 use Rattle.std.proofs.lemmas.Bool.Decides.{nat_tests}
+use Rattle.std.proofs.lemmas.Slice.Zip.{AllZip-long, all_zipped_more}
 use Rattle.std.specs.Prelude.{if◌then◌else◌}
 use Rattle.heat_ledger.specs.Ledger.{ShareData}
 use Rattle.heat_ledger.specs.Rows.{at, entry, raised, raised_by}
 use Rattle.heat_ledger.proofs.RowLemmas.{at_set_same, at_set_other, raised_by_none}
 use Rattle.rank_threads.specs.declared.work.Work.{Work}
 use Rattle.rank_threads.specs.declared.work.WorkAnswer.{WorkAnswer}
-use Rattle.rank_threads.proofs.Returning.{all_short_stay, zip_length, zip_more}
+use Rattle.rank_threads.proofs.Returning.{all_short_stay}
 use Rattle.rank_threads.specs.Serving.{Fits, IsServed, IsShort, Counted, after_hits, hits_on, begun_on}
 
 pub hits_none : (share : ShareData) (e : ℕ) → share ≡ after_hits share e 0
@@ -38,18 +39,16 @@ counted_one limit n t s w a lh lp lb ticket hits = record {
 hits_on_more : (e : ℕ) (works : List Work) (answers : List WorkAnswer) (w : Work) (a : WorkAnswer) → length works ≡ length answers
     → hits_on e (works ++ w ∷ []) (answers ++ a ∷ []) ≡ hits_on e works answers + hits_on e (w ∷ []) (a ∷ [])
 hits_on_more e [] [] w a same = omega arith
-hits_on_more e [] (b ∷ answers) w a same = absurd (cc)
-hits_on_more e (v ∷ works) [] w a same = absurd (cc)
 hits_on_more e (v ∷ works) (b ∷ answers) w a same = let rest : length works ≡ length answers = omega arith in
     let more = hits_on_more e works answers w a rest in omega arith
+hits_on_more e _ _ w a same = absurd (cc)
 
 begun_on_more : (d : ℕ) (works : List Work) (answers : List WorkAnswer) (w : Work) (a : WorkAnswer) → length works ≡ length answers
     → begun_on d (works ++ w ∷ []) (answers ++ a ∷ []) ≡ begun_on d works answers + begun_on d (w ∷ []) (a ∷ [])
 begun_on_more d [] [] w a same = omega arith
-begun_on_more d [] (b ∷ answers) w a same = absurd (cc)
-begun_on_more d (v ∷ works) [] w a same = absurd (cc)
 begun_on_more d (v ∷ works) (b ∷ answers) w a same = let rest : length works ≡ length answers = omega arith in
     let e = begun_on_more d works answers w a rest in omega arith
+begun_on_more d _ _ w a same = absurd (cc)
 
 pub served_none : (limit : ℕ) (s : ShareData) → IsServed limit s [] [] s
 served_none limit s = record {
@@ -68,9 +67,9 @@ pub served_more : (limit : ℕ) (old mid new : ShareData) (works : List Work) (a
     → IsServed limit old works answers mid → Fits w a → IsShort limit new w.dir w.kind a.refused → Counted limit mid (w ∷ []) (a ∷ []) new
     → IsServed limit old (works ++ w ∷ []) (answers ++ a ∷ []) new
 served_more limit old mid new works answers w a h fits short one =
-    let same = zip_length Fits works answers h.fits in record {
-      fits = zip_more Fits works answers w a h.fits fits;
-      short = zip_more (λ v b. IsShort limit new v.dir v.kind b.refused) works answers w a
+    let same = sym (AllZip-long Fits works answers h.fits) in record {
+      fits = all_zipped_more Fits works answers w a h.fits fits;
+      short = all_zipped_more (λ v b. IsShort limit new v.dir v.kind b.refused) works answers w a
           (all_short_stay limit mid new works answers (λ e inside. (let q = one.hits e inside in omega arith)) h.short) short;
       counted = record {
         weight = one.weight ∙ h.counted.weight;

@@ -2,6 +2,7 @@
 use Rattle.std.proofs.Common.{◌≡◌, ℕ, suc, List, [], ◌∷◌, ◌++◌, length, map, Vec, Global, refl, sym}
 use Rattle.std.proofs.Common.{ap, arith, ◌∙◌, subst, append-nil, append_assoc, Result, Ok, Err, inl, inr, ◌⊎◌}
 use Rattle.std.specs.Prelude.{IsOk}
+use Rattle.std.proofs.lemmas.List.{nil_from_length, same_from_push}
 use mathlib.Core.List.{IsPrefix}
 use Rattle.mds_board.specs.declared.board_error.BoardError.{BoardError}
 use Rattle.heat_ledger.specs.Ledger.{ShareData}
@@ -18,34 +19,17 @@ use Rattle.rank_threads.proofs.Naming.{all_more}
 use Rattle.rank_threads.proofs.Later.{all_later, rank_later}
 use Rattle.rank_threads.proofs.Returning.{answered_last, returned, returned_last}
 
-module _ {A : Type 0} where
-  none_of : (xs : List A) → length xs ≡ 0 → xs ≡ []
-  none_of [] h = refl
-  none_of (x ∷ xs) h = absurd (cc)
-
-  no_snoc : (xs : List A) (x : A) → [] ≡ xs ++ x ∷ [] → ⊥
-  no_snoc [] x h = cc
-  no_snoc (y ∷ xs) x h = cc
-
-  -- lists with a last element are the same only where both parts are
-  snoc_same : (xs ys : List A) (x y : A) → xs ++ x ∷ [] ≡ ys ++ y ∷ [] → (xs ≡ ys) × (x ≡ y)
-  snoc_same [] [] x y h = let same : x ≡ y = cc in (refl, same)
-  snoc_same [] (b ∷ ys) x y h = let tail : [] ≡ ys ++ y ∷ [] = cc in absurd (no_snoc ys y tail)
-  snoc_same (a ∷ xs) [] x y h = let tail : [] ≡ xs ++ x ∷ [] = cc in absurd (no_snoc xs x tail)
-  snoc_same (a ∷ xs) (b ∷ ys) x y h =
-      let head : a ≡ b = cc in
-      let tail : xs ++ x ∷ [] ≡ ys ++ y ∷ [] = cc in
-      let rest = snoc_same xs ys x y tail in
-      (ap (λ (zs : List A). a ∷ zs) rest.0 ∙ ap (λ (z : A). z ∷ ys) head, rest.1)
+no_snoc : {A : Type 0} (xs : List A) (x : A) → [] ≡ xs ++ x ∷ [] → ⊥
+no_snoc [] x h = cc
+no_snoc (y ∷ xs) x h = cc
 
 -- hands
 
 pub hands_last : (shares : List ShareData) (ways : List Way) (s : ShareData) (w : Way) → length shares ≡ length ways
     → hands_of (shares ++ s ∷ []) (ways ++ w ∷ []) ≡ hands_of shares ways ++ record { share = s; way = w } ∷ []
 hands_last [] [] s w e = refl
-hands_last [] (v ∷ ways) s w e = absurd (cc)
-hands_last (t ∷ shares) [] s w e = absurd (cc)
 hands_last (t ∷ shares) (v ∷ ways) s w e = ap (λ (hs : List Hand). record { share = t; way = v } ∷ hs) (hands_last shares ways s w (omega arith))
+hands_last _ _ s w e = absurd (cc)
 
 shares_back : (shares : List ShareData) (ways : List Way) → length shares ≡ length ways → shares_of (hands_of shares ways) ≡ shares
 shares_back [] ways e = refl
@@ -97,8 +81,8 @@ pub all_asked : (scripts : List (Vec Work Global)) (hands : List Hand) (left : L
     → AreAsked scripts hands left left_hands asked → length left ≡ 0 → length left_hands ≡ 0
     → asked ≡ askings hands (map (λ (s : Vec Work Global). s.items) scripts)
 all_asked scripts hands left left_hands asked h nl nh =
-    let ws : scripts ≡ h.more = h.scripts_are ∙ ap (λ (l : List (Vec Work Global)). l ++ h.more) (none_of left nl) in
-    let hs : hands ≡ h.more_hands = h.hands_are ∙ ap (λ (l : List Hand). l ++ h.more_hands) (none_of left_hands nh) in
+    let ws : scripts ≡ h.more = h.scripts_are ∙ ap (λ (l : List (Vec Work Global)). l ++ h.more) (nil_from_length left nl) in
+    let hs : hands ≡ h.more_hands = h.hands_are ∙ ap (λ (l : List Hand). l ++ h.more_hands) (nil_from_length left_hands nh) in
     h.asked_are
     ∙ (ap (λ (l : List Hand). askings l (map (λ (s : Vec Work Global). s.items) h.more)) (sym hs)
     ∙ ap (λ (l : List (Vec Work Global)). askings hands (map (λ (s : Vec Work Global). s.items) l)) (sym ws))
@@ -116,10 +100,8 @@ record IsNext (hands : List Hand) (scripts : List (List Work)) (rest : List Aski
 
 next_asking : (hands : List Hand) (scripts : List (List Work)) (rest : List Asking) (it : Asking) → length hands ≡ length scripts
     → askings hands scripts ≡ rest ++ it ∷ [] → IsNext hands scripts rest it
-next_asking [] scripts rest it e h = absurd (no_snoc rest it h)
-next_asking (x ∷ hands) [] rest it e h = absurd (no_snoc rest it h)
 next_asking (x ∷ hands) (w ∷ scripts) rest it e h =
-    let both = snoc_same (askings hands scripts) rest (record { hand = x; script = w }) it h in record {
+    let both = same_from_push (askings hands scripts) rest (record { hand = x; script = w }) it h in record {
       more_hands = hands;
       more_scripts = scripts;
       hands_are = ap (λ (a : Asking). a.hand ∷ hands) both.1;
@@ -127,12 +109,12 @@ next_asking (x ∷ hands) (w ∷ scripts) rest it e h =
       left = sym both.0;
       equal = omega arith;
     }
+next_asking _ _ rest it e h = absurd (no_snoc rest it h)
 
 none_left : (hands : List Hand) (scripts : List (List Work)) → length hands ≡ length scripts → [] ≡ askings hands scripts → (hands ≡ []) × (scripts ≡ [])
 none_left [] [] e h = (refl, refl)
-none_left [] (w ∷ scripts) e h = absurd (cc)
-none_left (x ∷ hands) [] e h = absurd (cc)
 none_left (x ∷ hands) (w ∷ scripts) e h = absurd (no_snoc (askings hands scripts) (record { hand = x; script = w }) h)
+none_left _ _ e h = absurd (cc)
 
 -- the first ranks have answered, and these are left
 pub record AreJoinedBut (limit : ℕ) (before : World) (log : List Entry) (hands : List Hand) (scripts : List (List Work)) (asked : List Asking)
@@ -202,7 +184,7 @@ pub all_joined : (limit : ℕ) (before : World) (log : List Entry) (shares : Lis
     → AreJoinedBut limit before log (hands_of shares ways) scripts asked answers (hands_of after later) tickets → length asked ≡ 0
     → AreReturned limit shares scripts answers after × AreAnswered before log (hands_of shares ways) scripts answers (hands_of after later)
 all_joined limit before log shares ways scripts asked answers after later tickets es ea h few =
-    let none = none_of asked few in
+    let none = nil_from_length asked few in
     let gone = none_left h.more_hands h.more_scripts h.equal (sym none ∙ h.left) in
     let hs : hands_of shares ways ≡ h.first_hands = h.hands_are ∙ (ap (λ (l : List Hand). h.first_hands ++ l) gone.0 ∙ append-nil h.first_hands) in
     let ws : scripts ≡ h.first_scripts = h.scripts_are ∙ (ap (λ (l : List (List Work)). h.first_scripts ++ l) gone.1 ∙ append-nil h.first_scripts) in

@@ -20,9 +20,7 @@ reply_later : (before : World) (log longer : List Entry) (rank dir : ℕ) (ticke
     → IsReply before log rank dir ticket refused → IsReply before longer rank dir ticket refused
 reply_later before log longer rank dir (Some ticket) refused more h = begun_later before log longer rank dir ticket more h
 reply_later before log longer rank dir None (Some (error.Board e)) more h = met_later before log longer _ e more h
-reply_later before log longer rank dir None (Some (error.Share e)) more h = h
-reply_later before log longer rank dir None (Some error.NoThread) more h = h
-reply_later before log longer rank dir None None more h = h
+reply_later _ _ _ _ _ _ _ _ h = absurd h
 
 published_later : (before : World) (log longer : List Entry) (dir asked : ℕ) → IsPrefix log longer → IsPublishedAt before log dir asked
     → IsPublishedAt before longer dir asked
@@ -46,10 +44,9 @@ answered_later before log longer old new work a more h = (
 pub each_later : (before : World) (log longer : List Entry) (old new : Way) (works : List Work) (answers : List WorkAnswer) → IsPrefix log longer
     → AllZip (IsAnswered before log old new) works answers → AllZip (IsAnswered before longer old new) works answers
 each_later before log longer old new [] [] more h = tt
-each_later before log longer old new [] (a ∷ answers) more h = absurd h
-each_later before log longer old new (w ∷ works) [] more h = absurd h
 each_later before log longer old new (w ∷ works) (a ∷ answers) more h =
     (answered_later before log longer old new w a more h.0, each_later before log longer old new works answers more h.1)
+each_later _ _ _ _ _ _ _ _ h = absurd h
 
 pub rank_later : (before : World) (log longer : List Entry) (old new : Way) (works : List Work) (answers : List WorkAnswer) → IsPrefix log longer
     → IsRankAnswered before log old new works answers → IsRankAnswered before longer old new works answers
@@ -62,12 +59,7 @@ pub all_later : (before : World) (log longer : List Entry) (hands : List Hand) (
 all_later before log longer [] [] [] [] more h = tt
 all_later before log longer (x ∷ hands) (w ∷ scripts) (a ∷ answers) (y ∷ after) more h =
     (rank_later before log longer x.way y.way w a more h.0, h.1, all_later before log longer hands scripts answers after more h.2)
-all_later before log longer [] [] [] (y ∷ after) more h = absurd h
-all_later before log longer [] [] (a ∷ answers) after more h = absurd h
-all_later before log longer [] (w ∷ scripts) answers after more h = absurd h
-all_later before log longer (x ∷ hands) [] answers after more h = absurd h
-all_later before log longer (x ∷ hands) (w ∷ scripts) [] after more h = absurd h
-all_later before log longer (x ∷ hands) (w ∷ scripts) (a ∷ answers) [] more h = absurd h
+all_later _ _ _ _ _ _ _ _ h = absurd h
 
 pub deposit_later : (before : World) (log longer : List Entry) (deposited : Result Unit BoardError) → IsPrefix log longer
     → IsDepositTold before log deposited → IsDepositTold before longer deposited

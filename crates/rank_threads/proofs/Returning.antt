@@ -1,6 +1,6 @@
 -- Shares come back in rank order.
-use Rattle.std.proofs.Common.{◌≡◌, ℕ, suc, ◌+◌, ◌<◌, ◌≤◌, Option, Some, None, List, [], ◌∷◌}
-use Rattle.std.proofs.Common.{◌++◌, length, Vec, Global, refl, sym, ap, arith, ◌∙◌, subst, inl, inr}
+use Rattle.std.proofs.Common.{◌≡◌, ℕ, ◌+◌, ◌<◌, ◌≤◌, Option, Some, List, [], ◌∷◌}
+use Rattle.std.proofs.Common.{◌++◌, Vec, Global, sym, ap, arith, ◌∙◌, subst, inl, inr}
 use Rattle.std.specs.List.{All, AllZip}
 use Rattle.std.proofs.lemmas.List.Elements.{All-push}
 use Rattle.heat_ledger.specs.declared.hit_error.HitError.TheVariants as hit
@@ -27,21 +27,18 @@ entry_inside limit dir Write inside = omega arith
 pub short_stays : (limit : ℕ) (mid new : ShareData) (dir : ℕ) (kind : Kind) (refused : Option WorkError)
     → ((e : ℕ) → e < limit + limit → at mid.hits e ≤ at new.hits e)
     → IsShort limit mid dir kind refused → IsShort limit new dir kind refused
-short_stays limit mid new dir kind None more h = tt
-short_stays limit mid new dir kind (Some (error.Board e)) more h = tt
-short_stays limit mid new dir kind (Some error.NoThread) more h = tt
 short_stays limit mid new dir kind (Some (error.Share hit.NoDir)) more h = h
 short_stays limit mid new dir kind (Some (error.Share hit.ShareFull)) more h =
     let grows = more (entry dir kind) (entry_inside limit dir kind h.0) in let full = h.1 in (h.0, omega (arith, grows, full))
+short_stays _ _ _ _ _ _ _ _ = tt
 
 pub all_short_stay : (limit : ℕ) (mid new : ShareData) (works : List Work) (answers : List WorkAnswer)
     → ((e : ℕ) → e < limit + limit → at mid.hits e ≤ at new.hits e)
     → AreShort limit mid works answers → AreShort limit new works answers
 all_short_stay limit mid new [] [] more h = tt
-all_short_stay limit mid new [] (a ∷ answers) more h = absurd h
-all_short_stay limit mid new (w ∷ works) [] more h = absurd h
 all_short_stay limit mid new (w ∷ works) (a ∷ answers) more h =
     (short_stays limit mid new w.dir w.kind a.refused more h.0, all_short_stay limit mid new works answers more h.1)
+all_short_stay _ _ _ _ _ _ h = absurd h
 
 pub returned : (limit : ℕ) (old mid new : ShareData) (works : List Work) (answers : List WorkAnswer) → IsServed limit old works answers mid
     → IsDeposited mid new
@@ -64,14 +61,9 @@ pub returned_last : (limit : ℕ) (olds : List ShareData) (scripts : List (List 
     → IsReturned limit old script given new
     → AreReturned limit (olds ++ old ∷ []) (scripts ++ script ∷ []) (answers ++ given ∷ []) (news ++ new ∷ [])
 returned_last limit [] [] [] [] old script given new all last = (last, tt)
-returned_last limit [] [] [] (n ∷ news) old script given new all last = absurd all
-returned_last limit [] [] (a ∷ answers) news old script given new all last = absurd all
-returned_last limit [] (w ∷ scripts) answers news old script given new all last = absurd all
-returned_last limit (o ∷ olds) [] answers news old script given new all last = absurd all
-returned_last limit (o ∷ olds) (w ∷ scripts) [] news old script given new all last = absurd all
-returned_last limit (o ∷ olds) (w ∷ scripts) (a ∷ answers) [] old script given new all last = absurd all
 returned_last limit (o ∷ olds) (w ∷ scripts) (a ∷ answers) (n ∷ news) old script given new all last =
     (all.0, returned_last limit olds scripts answers news old script given new all.1 last)
+returned_last _ _ _ _ _ _ _ _ _ all _ = absurd all
 
 module _ {A B : Type 0} (R : A → B → Type 0) where
   pub zip_last : (xs : List A) (ys : List B) (x : A) (y : B) → AllZip R (xs ++ x ∷ []) (ys ++ y ∷ []) → AllZip R xs ys × R x y
@@ -93,19 +85,6 @@ pub clean_last : (news back : List ShareData) (new : ShareData) → back ≡ new
 clean_last news back new is all last = subst (λ (l : List ShareData). All (λ s. IsClean s) l) (sym is)
     (All-push (λ (s : ShareData). IsClean s) news new all last)
 
-module _ {A B : Type 0} (R : A → B → Type 0) where
-  pub zip_more : (xs : List A) (ys : List B) (x : A) (y : B) → AllZip R xs ys → R x y → AllZip R (xs ++ x ∷ []) (ys ++ y ∷ [])
-  zip_more [] [] x y all r = (r, tt)
-  zip_more [] (w ∷ ys) x y all r = absurd all
-  zip_more (v ∷ xs) [] x y all r = absurd all
-  zip_more (v ∷ xs) (w ∷ ys) x y all r = (all.0, zip_more xs ys x y all.1 r)
-
-  pub zip_length : (xs : List A) (ys : List B) → AllZip R xs ys → length xs ≡ length ys
-  zip_length [] [] all = refl
-  zip_length [] (w ∷ ys) all = absurd all
-  zip_length (v ∷ xs) [] all = absurd all
-  zip_length (v ∷ xs) (w ∷ ys) all = ap (λ n. suc n) (zip_length xs ys all.1)
-
 -- the answers of one rank more
 pub answered_last : (before : World) (log : List Entry) (hands : List Hand) (scripts : List (List Work)) (answers : List (List WorkAnswer)) (after : List Hand)
     (old : Hand) (works : List Work) (given : List WorkAnswer) (new : Hand) → AreAnswered before log hands scripts answers after
@@ -114,9 +93,4 @@ pub answered_last : (before : World) (log : List Entry) (hands : List Hand) (scr
 answered_last before log [] [] [] [] old works given new all last held = (last, held, tt)
 answered_last before log (x ∷ hands) (w ∷ scripts) (a ∷ answers) (y ∷ after) old works given new all last held =
     (all.0, all.1, answered_last before log hands scripts answers after old works given new all.2 last held)
-answered_last before log [] [] [] (y ∷ after) old works given new all last held = absurd all
-answered_last before log [] [] (a ∷ answers) after old works given new all last held = absurd all
-answered_last before log [] (w ∷ scripts) answers after old works given new all last held = absurd all
-answered_last before log (x ∷ hands) [] answers after old works given new all last held = absurd all
-answered_last before log (x ∷ hands) (w ∷ scripts) [] after old works given new all last held = absurd all
-answered_last before log (x ∷ hands) (w ∷ scripts) (a ∷ answers) [] old works given new all last held = absurd all
+answered_last _ _ _ _ _ _ _ _ _ _ all _ _ = absurd all

@@ -26,19 +26,17 @@ held_still (ByMap ops) = ([], append-nil ops)
 pub held_further : (old mid new : Way) → HoldsAsMuch old mid → HoldsAsMuch mid new → HoldsAsMuch old new
 held_further (At r) (At s) (At t) h k = k ∙ h
 held_further (ByMap old) (ByMap mid) (ByMap new) h k = follows old mid new h k
-held_further (At r) (At s) (ByMap new) h k = absurd k
 held_further (At r) (ByMap mid) new h k = absurd h
 held_further (ByMap old) (At s) new h k = absurd h
-held_further (ByMap old) (ByMap mid) (At t) h k = absurd k
+held_further _ _ _ _ k = absurd k
 
 -- found earlier
 found_later : (old mid new : Way) (dir found : ℕ) → HoldsAsMuch mid new → IsFoundAt old mid dir found → IsFoundAt old new dir found
 found_later (At r) (At s) (At t) dir found k h = h
 found_later (ByMap old) (ByMap mid) (ByMap new) dir found k h = (h.0, h.1, follows h.0 mid new h.2 k, h.3)
-found_later (At r) (At s) (ByMap new) dir found k h = absurd k
 found_later (At r) (ByMap mid) new dir found k h = absurd h
 found_later (ByMap old) (At s) new dir found k h = absurd h
-found_later (ByMap old) (ByMap mid) (At t) dir found k h = absurd k
+found_later _ _ _ _ _ k _ = absurd k
 
 asked_later : (before : World) (log : List Entry) (old mid new : Way) (dir asked : ℕ) → HoldsAsMuch mid new
     → IsAskedAt before log old mid dir asked → IsAskedAt before log old new dir asked
@@ -50,18 +48,16 @@ asked_later before log (ByMap old) mid new dir asked k (inr h) = inr h
 found_since : (old mid new : Way) (dir found : ℕ) → HoldsAsMuch old mid → IsFoundAt mid new dir found → IsFoundAt old new dir found
 found_since (At r) (At s) (At t) dir found k h = h ∙ k
 found_since (ByMap old) (ByMap mid) (ByMap new) dir found k h = (h.0, follows old mid h.0 k h.1, h.2, h.3)
-found_since (At r) (At s) (ByMap new) dir found k h = absurd h
 found_since (At r) (ByMap mid) new dir found k h = absurd k
 found_since (ByMap old) (At s) new dir found k h = absurd k
-found_since (ByMap old) (ByMap mid) (At t) dir found k h = absurd h
+found_since _ _ _ _ _ _ h = absurd h
 
 asked_since : (before : World) (log : List Entry) (old mid new : Way) (dir asked : ℕ) → HoldsAsMuch old mid
     → IsAskedAt before log mid new dir asked → IsAskedAt before log old new dir asked
 asked_since before log (At r) (At s) new dir asked k h = found_since (At r) (At s) new dir asked k h
 asked_since before log (ByMap old) (ByMap mid) new dir asked k (inl h) = inl (found_since (ByMap old) (ByMap mid) new dir asked k h)
 asked_since before log (ByMap old) (ByMap mid) new dir asked k (inr h) = inr h
-asked_since before log (At r) (ByMap mid) new dir asked k h = absurd k
-asked_since before log (ByMap old) (At s) new dir asked k h = absurd k
+asked_since _ _ _ _ _ _ _ k _ = absurd k
 
 pub one_since : (before : World) (log : List Entry) (old mid new : Way) (w : Work) (a : WorkAnswer) → HoldsAsMuch old mid
     → IsAnswered before log mid new w a → IsAnswered before log old new w a
@@ -70,10 +66,9 @@ one_since before log old mid new w a k h = (h.0, asked_since before log old mid 
 pub each_held : (before : World) (log : List Entry) (old mid new : Way) (works : List Work) (answers : List WorkAnswer) → HoldsAsMuch mid new
     → AllZip (IsAnswered before log old mid) works answers → AllZip (IsAnswered before log old new) works answers
 each_held before log old mid new [] [] k h = tt
-each_held before log old mid new [] (a ∷ answers) k h = absurd h
-each_held before log old mid new (w ∷ works) [] k h = absurd h
 each_held before log old mid new (w ∷ works) (a ∷ answers) k h =
     ((h.0.0, asked_later before log old mid new w.dir h.0.0 k h.0.1, h.0.2), each_held before log old mid new works answers k h.1)
+each_held _ _ _ _ _ _ _ _ h = absurd h
 
 -- what a reader finds
 
@@ -103,18 +98,12 @@ own_later : (before : World) (log : List Entry) (rank n : ℕ) (shares : List Sh
     → hands_of after later ≡ hands_of after (own_ranks rank n)
 own_later before log rank zero [] [] [] [] later el h = refl
 own_later before log rank zero [] [] [] (t ∷ after) [] el h = refl
-own_later before log rank zero [] [] [] (t ∷ after) (v ∷ later) el h = absurd h
 own_later before log rank (suc n) (s ∷ shares) (w ∷ scripts) (a ∷ answers) (t ∷ after) (v ∷ later) el h =
     ap (λ (l : List Hand). record { share = t; way = v } ∷ l) (own_later before log (rank + 1) n shares scripts answers after later (omega arith) h.2)
     ∙ ap (λ (x : Way). record { share = t; way = x } ∷ hands_of after (own_ranks (rank + 1) n)) (own_after rank v h.1)
 own_later before log rank zero (s ∷ shares) scripts answers after later el h = absurd (cc)
 own_later before log rank (suc n) [] scripts answers after later el h = absurd (cc)
-own_later before log rank zero [] [] (a ∷ answers) after later el h = absurd h
-own_later before log rank zero [] (w ∷ scripts) answers after later el h = absurd h
-own_later before log rank (suc n) (s ∷ shares) [] answers after later el h = absurd h
-own_later before log rank (suc n) (s ∷ shares) (w ∷ scripts) [] after later el h = absurd h
-own_later before log rank (suc n) (s ∷ shares) (w ∷ scripts) (a ∷ answers) [] later el h = absurd h
-own_later before log rank (suc n) (s ∷ shares) (w ∷ scripts) (a ∷ answers) (t ∷ after) [] el h = absurd h
+own_later _ _ _ _ _ _ _ _ _ _ h = absurd h
 
 pub served_own : (limit : ℕ) (before : World) (log : List Entry) (n : ℕ) (shares : List ShareData) (scripts : List (List Work))
     (answers : List (List WorkAnswer)) (after : List ShareData) (later : List Way)

@@ -1,6 +1,8 @@
 -- The stops of a phase, round by round and one by one.
-use Rattle.std.proofs.Common.{◌≡◌, ◌≤◌, ◌<◌, ◌≢◌, ◌+◌, ◌⊎◌, ℕ, zero, suc, List, [], ◌∷◌, length}
-use Rattle.std.proofs.Common.{get_or, Result, Ok, Err, inl, inr, refl, sym, ap, ◌∙◌, subst, arith}
+use Rattle.std.proofs.Common.{◌≡◌, ◌≤◌, ◌<◌, ◌≢◌, ◌+◌, ◌⊎◌, ℕ, List, length}
+use Rattle.std.proofs.Common.{get_or, Result, Ok, Err, inl, inr, sym, ap, ◌∙◌, subst, arith}
+use Rattle.std.proofs.Math.Nat.{eq-or-lt_of_le}
+use Rattle.std.proofs.lemmas.List.{get_or-map, get_or_default, length-map}
 use Rattle.std.specs.Prelude.{IfErr, OnOk}
 use Rattle.std.specs.List.{Contains}
 use mathlib.Core.List.{IsPrefix}
@@ -45,17 +47,6 @@ none_yet begun before log stops told h = record { each = one; met = h.met }
     one i d l (first, inl few) = h.each i d l first few
     one i d l (first, inr none) = absurd (omega (arith, none.0))
 
-below_or_at : (i at : ℕ) → i < at + 1 → (i < at) ⊎ (i ≡ at)
-below_or_at zero zero h = inr refl
-below_or_at zero (suc at) h = inl (omega arith)
-below_or_at (suc i) zero h = absurd (omega arith)
-below_or_at (suc i) (suc at) h = elim (below_or_at i at (omega arith)) [ inl less ↦ inl (omega arith) | inr same ↦ inr (ap suc same) ]
-
-get_any : (stops : List RankStop) (i : ℕ) (d e : RankStop) → i < length stops → get_or stops i d ≡ get_or stops i e
-get_any [] i d e l = absurd (omega arith)
-get_any (s ∷ stops) zero d e l = refl
-get_any (s ∷ stops) (suc i) d e l = get_any stops i d e (omega arith)
-
 met_after : (before : World) (log longer : List Entry) (stops : List RankStop) (rank : ℕ) (told next : Result Unit BoardError)
     → IsPrefix log longer → Contains (ranks_of stops) rank
     → IfErr next (λ e. (told ≡ next) ⊎ IsMet before longer (Step (Stop rank)) e) → IsMetOf before log stops told → IsMetOf before longer stops next
@@ -76,10 +67,10 @@ one_more begun at before log longer stops told next stop more kept is inside thi
     one : (i : ℕ) (d : RankStop) → i < length stops → IsDue begun (at + 1) i (get_or stops i d) → IsStopTold before longer next (get_or stops i d).rank
     one i d l (first, inl few) = told_more before log longer told next (get_or stops i d).rank more kept (h.each i d l (first, inl few))
     one i d l (first, inr due) =
-        elim (below_or_at i at due.0) [
-          | inl less ↦ told_more before log longer told next (get_or stops i d).rank more kept (h.each i d l (first, inr (less, due.1)))
-          | inr same ↦
-              let found : stop ≡ get_or stops i d = is ∙ (ap (λ (k : ℕ). get_or stops k stop) (sym same) ∙ get_any stops i stop d l) in
+        elim (eq-or-lt_of_le {n = i} {m = at} (let below = due.0 in omega arith)) [
+          | inr less ↦ told_more before log longer told next (get_or stops i d).rank more kept (h.each i d l (first, inr (less, due.1)))
+          | inl same ↦
+              let found : stop ≡ get_or stops i d = is ∙ (ap (λ (k : ℕ). get_or stops k stop) (sym same) ∙ get_or_default stops i stop d l) in
               subst (λ (s : RankStop). IsStopTold before longer next s.rank) found this
         ]
 
@@ -92,28 +83,19 @@ passed_over begun at before log stops told stop is other h = record { each = one
     one : (i : ℕ) (d : RankStop) → i < length stops → IsDue begun (at + 1) i (get_or stops i d) → IsStopTold before log told (get_or stops i d).rank
     one i d l (first, inl few) = h.each i d l (first, inl few)
     one i d l (first, inr due) =
-        elim (below_or_at i at due.0) [
-          | inl less ↦ h.each i d l (first, inr (less, due.1))
-          | inr same ↦
-              let found : stop ≡ get_or stops i d = is ∙ (ap (λ (k : ℕ). get_or stops k stop) (sym same) ∙ get_any stops i stop d l) in
+        elim (eq-or-lt_of_le {n = i} {m = at} (let below = due.0 in omega arith)) [
+          | inr less ↦ h.each i d l (first, inr (less, due.1))
+          | inl same ↦
+              let found : stop ≡ get_or stops i d = is ∙ (ap (λ (k : ℕ). get_or stops k stop) (sym same) ∙ get_or_default stops i stop d l) in
               let round : stop.round ≡ (get_or stops i d).round = ap (λ (s : RankStop). s.round) found in
               h.each i d l (first, inl (let few = due.1 in omega arith))
         ]
 
 -- a rank that stops is one of those that do
 
-many_ranks : (stops : List RankStop) → length (ranks_of stops) ≡ length stops
-many_ranks [] = refl
-many_ranks (s ∷ stops) = ap suc (many_ranks stops)
-
-rank_at : (stops : List RankStop) (k : ℕ) (d : RankStop) (x : ℕ) → k < length stops → get_or (ranks_of stops) k x ≡ (get_or stops k d).rank
-rank_at [] k d x l = absurd (omega arith)
-rank_at (s ∷ stops) zero d x l = refl
-rank_at (s ∷ stops) (suc k) d x l = rank_at stops k d x (omega arith)
-
 pub rank_named : (stops : List RankStop) (k : ℕ) (stop : RankStop) → k < length stops → stop ≡ get_or stops k stop → Contains (ranks_of stops) stop.rank
 rank_named stops k stop l is = (
   k,
-  (let many = many_ranks stops in omega arith),
-  rank_at stops k stop stop.rank l ∙ ap (λ (s : RankStop). s.rank) (sym is),
+  (let many = length-map stops (λ s. s.rank) in omega arith),
+  get_or-map (λ s. s.rank) stops k stop stop.rank l ∙ ap (λ (s : RankStop). s.rank) (sym is),
 )

@@ -13,7 +13,7 @@ use Rattle.phased_board.specs.Begun.{IsBegun}
 use Rattle.rank_threads.specs.declared.work.Work.{Work}
 use Rattle.rank_threads.specs.declared.work.WorkAnswer.{WorkAnswer}
 use Rattle.rank_threads.specs.declared.work.WorkError.{WorkError}
-use Rattle.rank_threads.specs.declared.work.WorkError.TheVariants.{Board, Share, NoThread}
+use Rattle.rank_threads.specs.declared.work.WorkError.TheVariants.{Board}
 use Rattle.rank_threads.specs.Serving.{IsServed, no_thread}
 use Rattle.rank_threads.specs.Tickets.{tickets_of}
 use Rattle.rank_threads.specs.Ways.{Hand, IsAskedAt, HoldsAsMuch, Way}
@@ -22,9 +22,7 @@ use Rattle.rank_threads.specs.Ways.{Hand, IsAskedAt, HoldsAsMuch, Way}
 abbrev pub IsReply : World → List Entry → ℕ → ℕ → Option ℕ → Option WorkError → Type 0
 IsReply before log rank dir (Some ticket) refused = IsBegun before log rank dir ticket
 IsReply before log rank dir None (Some (Board error)) = IsMet before log (Step (Begin rank dir)) error
-IsReply before log rank dir None (Some (Share error)) = ⊥
-IsReply before log rank dir None (Some NoThread) = ⊥
-IsReply before log rank dir None None = ⊥
+IsReply _ _ _ _ _ _ = ⊥
 
 -- the answer is what the board said to the request, asked at this rank
 abbrev pub IsAnswered : World → List Entry → Way → Way → Work → WorkAnswer → Type 0

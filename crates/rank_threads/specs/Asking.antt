@@ -1,7 +1,7 @@
--- Which ranks a phase has asked to serve their requests, and the room for the answers.
+-- Which ranks a phase has asked to serve their requests, and what their answers say.
 use Rattle.std.specs.Global.{Global}
-use Rattle.std.specs.List.{All, AllZip}
-use Rattle.std.specs.Prelude.{◌≡◌, ◌≤◌, ℕ, List, [], ◌∷◌, ◌++◌, length, Result, IsOk, Vec, vec_len, vec_capacity}
+use Rattle.std.specs.List.{All}
+use Rattle.std.specs.Prelude.{◌≡◌, ◌≤◌, ℕ, List, [], ◌∷◌, ◌++◌, length, Result, IsOk, Vec, vec_capacity}
 use Rattle.mds_board.specs.declared.board_error.BoardError.{BoardError}
 use Rattle.heat_ledger.specs.Ledger.{IsClean, ShareData}
 use Rattle.mds_board.specs.declared.entry.Entry.{Entry}
@@ -21,26 +21,13 @@ pub record Asking : Type 0 where
 
 -- the ranks with these hands and scripts, the last rank first
 abbrev pub askings : List Hand → List (List Work) → List Asking
-askings [] scripts = []
-askings (hand ∷ hands) [] = []
 askings (hand ∷ hands) (script ∷ scripts) =
     askings hands scripts ++ record { hand = hand; script = script } ∷ []
+askings _ _ = []
 
 -- room for the answers to a script
 abbrev pub IsRoomFor : Vec Work Global → Vec WorkAnswer Global → Type 0
 IsRoomFor script room = (room.items ≡ []) × (length script.items ≤ vec_capacity room)
-
--- At most 64 scripts. For each a share, one of `many` ways, and room for its answers; and room for all ranks that are
--- asked.
-pub record AreLaid (scripts : List (Vec Work Global)) (shares : Vec ShareData Global) (many : ℕ)
-    (rooms : Vec (Vec WorkAnswer Global) Global) (asked : Vec Asking Global) : Type 0 where
-  pub few : length scripts ≤ 64
-  pub equal : vec_len shares ≡ length scripts
-  pub ways : many ≡ length scripts
-  pub as_many : vec_len rooms ≡ length scripts
-  pub roomy : AllZip IsRoomFor scripts rooms.items
-  pub none : asked.items ≡ []
-  pub place : length scripts ≤ vec_capacity asked
 
 -- All ranks have answered, in a phase that began with this board and has come to this log. Their shares have deposited
 -- their hits, or a deposit was refused so.

@@ -1,5 +1,6 @@
 pub mod Answered
 pub mod Asking
+pub mod Phases
 pub mod Refused
 pub mod Serving
 pub mod Tickets

@@ -17,10 +17,7 @@ IsOutcome wanted hits (Some ticket) None = hits ≡ wanted
 IsOutcome wanted hits (Some ticket) (Some (Share e)) = hits < wanted
 IsOutcome wanted hits None (Some (Board e)) = hits ≡ 0
 IsOutcome wanted hits None (Some NoThread) = hits ≡ 0
-IsOutcome wanted hits None None = ⊥
-IsOutcome wanted hits None (Some (Share e)) = ⊥
-IsOutcome wanted hits (Some ticket) (Some (Board e)) = ⊥
-IsOutcome wanted hits (Some ticket) (Some NoThread) = ⊥
+IsOutcome _ _ _ _ = ⊥
 
 -- the answer is one that the request can have
 abbrev pub Fits : Work → WorkAnswer → Type 0
@@ -41,15 +38,13 @@ if_same one other n = if one == other then n else 0
 
 -- the hits at an entry, of a directory and a kind, that the answers to these requests name
 abbrev pub hits_on : ℕ → List Work → List WorkAnswer → ℕ
-hits_on e [] answers = 0
-hits_on e (w ∷ works) [] = 0
 hits_on e (w ∷ works) (a ∷ answers) = if_same (entry w.dir w.kind) e a.hits + hits_on e works answers
+hits_on _ _ _ = 0
 
 -- the requests on a directory that began, by their answers
 abbrev pub begun_on : ℕ → List Work → List WorkAnswer → ℕ
-begun_on d [] answers = 0
-begun_on d (w ∷ works) [] = 0
 begun_on d (w ∷ works) (a ∷ answers) = if_same w.dir d (one_if a.ticket) + begun_on d works answers
+begun_on _ _ _ = 0
 
 -- the share, with n hits more at an entry
 abbrev pub after_hits : ShareData → ℕ → ℕ → ShareData
@@ -68,9 +63,7 @@ pub record Counted (limit : ℕ) (old : ShareData) (works : List Work) (answers 
 abbrev pub IsShort : ℕ → ShareData → ℕ → Kind → Option WorkError → Type 0
 IsShort limit share dir kind (Some (Share NoDir)) = limit ≤ dir
 IsShort limit share dir kind (Some (Share ShareFull)) = (dir < limit) × (2 ^ 56 ≤ at share.hits (entry dir kind))
-IsShort limit share dir kind (Some (Board e)) = Unit {0}
-IsShort limit share dir kind (Some NoThread) = Unit {0}
-IsShort limit share dir kind None = Unit {0}
+IsShort _ _ _ _ _ = Unit {0}
 
 -- Where a request has fewer hits than it asked for, there was no room for more.
 abbrev pub AreShort : ℕ → ShareData → List Work → List WorkAnswer → Type 0

@@ -23,8 +23,7 @@ abbrev pub IsFoundAt : Way → Way → ℕ → ℕ → Type 0
 IsFoundAt (At rank) (At same) dir found = found ≡ rank
 IsFoundAt (ByMap old) (ByMap new) dir found =
     (then : List Operation) × IsPrefix old then × IsPrefix then new × (found ≡ rank_or_zero (rank_after then dir))
-IsFoundAt (At rank) (ByMap new) dir found = ⊥
-IsFoundAt (ByMap old) (At rank) dir found = ⊥
+IsFoundAt _ _ _ _ = ⊥
 
 -- the same, of what a board of the phase had published, for a reader that found the map closed
 abbrev pub IsPublishedAt : World → List Entry → ℕ → ℕ → Type 0
@@ -46,8 +45,7 @@ IsByMap (ByMap operations) = Unit {0}
 abbrev pub HoldsAsMuch : Way → Way → Type 0
 HoldsAsMuch (At rank) (At same) = same ≡ rank
 HoldsAsMuch (ByMap old) (ByMap new) = IsPrefix old new
-HoldsAsMuch (At rank) (ByMap new) = ⊥
-HoldsAsMuch (ByMap old) (At rank) = ⊥
+HoldsAsMuch _ _ = ⊥
 
 -- what the thread of a rank works with
 pub record Hand : Type 0 where
@@ -56,8 +54,7 @@ pub record Hand : Type 0 where
 
 abbrev pub hands_of : List ShareData → List Way → List Hand
 hands_of (s ∷ shares) (w ∷ ways) = record { share = s; way = w } ∷ hands_of shares ways
-hands_of [] ways = []
-hands_of (s ∷ shares) [] = []
+hands_of _ _ = []
 
 abbrev pub shares_of : List Hand → List ShareData
 shares_of [] = []

@@ -1,9 +1,8 @@
 //! The orders of a board are carried out, by a thread a rank.
-ghost use Rattle.std.specs.Prelude.{◌≡◌, ◌≤◌, [], count_by, false, length, true, vec_capacity, IfOk, OnErr};
-ghost use Rattle.phased_board.specs.Asked.{AreAsked, is_begun};
+ghost use Rattle.std.specs.Prelude.{◌≡◌, ◌≤◌, [], IfOk, Ok, OnErr, false, length, true, vec_capacity};
 ghost use Rattle.phased_board.specs.Going.{WentOnBy, WentOnWithStops};
-ghost use Rattle.phased_board.specs.Outcomes.{AreAll, AreOutcomes};
 ghost use Rattle.phased_board.specs.Stops.{AreStopped, ranks_of};
+ghost use Rattle.rank_threads.specs.Phases.{AreExported, IsPrepared};
 
 use crate::place::Place;
 use crate::stopping::Stopping;
@@ -18,7 +17,7 @@ use phased_board::desk::set_up;
 use phased_board::looks::is_before_log;
 use phased_board::starting::waiting;
 use phased_board::{
-    Breaks, Desk, ExportSide, Gate, Outcome, Phase, PhaseNames, Phased, RankStop, Standing,
+    Breaks, Desk, ExportSide, Gate, Known, Outcome, Phase, PhaseNames, Phased, RankStop, Standing,
     Unsettled,
 };
 use proof_names::Naming;
@@ -74,9 +73,7 @@ pub fn prepare<J: Naming, M: Publisher<J>>(
     orders: &[Order],
     unsettled: &mut Unsettled,
 ) -> Result<Prepared, AllocError>
-    ensures asked { IfOk result (λ p. AreAsked board.now board.now orders.now p.standings.items) }
-    ensures none { IfOk result (λ p. count_by is_begun p.standings.items ≡ 0) }
-    ensures room { IfOk result (λ p. (p.outcomes.items ≡ []) × (length orders.now ≤ vec_capacity p.outcomes)) }
+    ensures { IfOk result (λ prepared. IsPrepared board.now orders.now prepared) }
 {
     let outcomes = Vec::with_capacity(alloc, orders.len())?;
     let standings = waiting(alloc, orders)?;
@@ -149,25 +146,54 @@ fn abort_rest<X: ExportSide, R: Wait>(rt: &R, alloc: Global, cell: &Mutex<X>, or
     }
 }
 
-/// Carries out orders on a board that is under a lock, in eight rounds, by a thread for each rank that has something to
-/// look after. What `breaks` does it does before each round. What the phase started and isn't logged after the last
-/// round is aborted.
-pub fn carry_out<X: ExportSide + Send, R: Threads + Wait + Sync, G: Gate + Sync, B: Breaks + Drop>(
+/// Carries out the orders of the phase `K` in eight rounds, by a thread for each rank that has something to look after,
+/// while ranks stop. What the phase started and isn't logged after the last round is aborted. It returns what is known
+/// of the board, and what is told of the stops.
+pub(crate) fn carry_out<
+    J: Naming + Send,
+    M: Publisher<J> + Send,
+    K: Phase + Send,
+    R: Threads + Wait + Sync,
+    G: Gate + Sync,
+>(
     rt: &R,
     alloc: Global,
-    cell: &Mutex<X>,
+    cell: &Mutex<Phased<J, M, K>>,
     gate: &G,
     orders: &[Order],
+    stops: &[RankStop],
     ranks: Places,
-    breaks: B,
-) -> B
-    requires { B.HasBegun 0 breaks }
-    ensures { B.HasBegun 8 result }
+) -> (Known<K>, Result<(), BoardError>)
+    requires { stops.now ≡ K.stops }
+    ensures { AreStopped 8 K.before result.0.seen K.stops result.1 }
 {
+    let stopping = Stopping::new(rt, alloc, cell, stops);
     start_strays(rt, alloc, cell, ranks.desks.len(), orders);
-    let breaks = take_rounds(rt, alloc, cell, gate, ranks, breaks);
+    let stopping = take_rounds(rt, alloc, cell, gate, ranks, stopping);
     abort_rest(rt, alloc, cell, orders.len());
-    breaks
+    stopping.into_known()
+}
+
+/// The board of the phase `K`, and what became of its orders and stops, when its threads have joined.
+pub(crate) fn close_exports<J: Naming, M: Publisher<J>, K: Phase>(
+    phased: Phased<J, M, K>,
+    stopping: (Known<K>, Result<(), BoardError>),
+    outcomes: Vec<Outcome>,
+) -> (Board<J, M>, Exported)
+    requires room { length K.orders ≤ vec_capacity outcomes }
+    requires none { outcomes.items ≡ [] }
+    requires stopped { AreStopped 8 K.before stopping.0.seen K.stops stopping.1 }
+    ensures board { result.0 ≡ phased }
+    ensures went { WentOnWithStops K.requests K.exports (ranks_of K.stops) K.before result.0 }
+    ensures exported { AreExported K.before result.0 K.orders K.stops result.1 }
+{
+    let (known, stopped) = stopping;
+    let mut phased = phased;
+    phased.compare(known);
+    let (board, standings) = phased.into_parts();
+    let mut outcomes = outcomes;
+    tell(board.cluster(), &standings, &mut outcomes);
+    (board, Exported { outcomes, stopped })
 }
 
 // Carries out the orders with which the phase K begins.
@@ -193,29 +219,19 @@ fn carry_out_named<
     requires exports { K.exports ≡ true }
     requires log { prepared.names.log ≡ K.log }
     requires tickets { prepared.names.tickets ≡ K.numbers }
-    requires asked { AreAsked board board orders.now prepared.standings.items }
-    requires none { count_by is_begun prepared.standings.items ≡ 0 }
-    requires room { (prepared.outcomes.items ≡ []) × (length orders.now ≤ vec_capacity prepared.outcomes) }
-    ensures board { WentOnWithStops false true (ranks_of stops.now) board result.0 }
-    ensures outcomes { AreOutcomes board result.0 orders.now result.1.outcomes.items }
-    ensures all { AreAll board result.0 result.1.outcomes.items }
-    ensures stopped { AreStopped 8 board result.0.history stops.now result.1.stopped }
+    requires prepared { IsPrepared K.before K.orders prepared }
+    ensures board { WentOnWithStops false true (ranks_of K.stops) K.before result.0 }
+    ensures exported { AreExported K.before result.0 K.orders K.stops result.1 }
 {
     let Prepared {
-        mut outcomes,
+        outcomes,
         standings,
         ranks,
         names,
     } = prepared;
     let cell = Mutex::new(Phased::<J, M, K>::new(board, standings, true, names));
-    let stopping = Stopping::new(rt, alloc, &cell, stops);
-    let stopping = carry_out(rt, alloc, &cell, gate, orders, ranks, stopping);
-    let (known, stopped) = stopping.into_known();
-    let mut phased = cell.into_inner();
-    phased.compare(known);
-    let (board, standings) = phased.into_parts();
-    tell(board.cluster(), &standings, &mut outcomes);
-    (board, Exported { outcomes, stopped })
+    let stopping = carry_out(rt, alloc, &cell, gate, orders, stops, ranks);
+    close_exports(cell.into_inner(), stopping, outcomes)
 }
 
 /// Carries out orders in eight rounds, by a thread for each rank that has something to do, and returns what became of
@@ -235,8 +251,8 @@ pub fn export_phase<
     orders: &[Order],
 ) -> (Board<J, M>, Result<Vec<Outcome>, AllocError>)
     ensures board { WentOnBy false true board result.0 }
-    ensures outcomes { IfOk result.1 (λ outcomes. AreOutcomes board result.0 orders.now outcomes.items) }
-    ensures all { IfOk result.1 (λ outcomes. AreAll board result.0 outcomes.items) }
+    ensures exported { IfOk result.1
+        (λ outcomes. AreExported board result.0 orders.now [] (record { outcomes = outcomes; stopped = Ok tt })) }
     ensures unchanged { OnErr result.1 (result.0 ≡ board) }
 {
     let mut unsettled = Unsettled::new(alloc);
@@ -269,8 +285,8 @@ pub fn export_phase_from<
     unsettled: &mut Unsettled,
 ) -> (Board<J, M>, Result<Vec<Outcome>, AllocError>)
     ensures board { WentOnBy false true board result.0 }
-    ensures outcomes { IfOk result.1 (λ outcomes. AreOutcomes board result.0 orders.now outcomes.items) }
-    ensures all { IfOk result.1 (λ outcomes. AreAll board result.0 outcomes.items) }
+    ensures exported { IfOk result.1
+        (λ outcomes. AreExported board result.0 orders.now [] (record { outcomes = outcomes; stopped = Ok tt })) }
     ensures unchanged { OnErr result.1 (result.0 ≡ board) }
 {
     let (board, done) = export_phase_with_stops(rt, alloc, board, gate, orders, &[], unsettled);
@@ -297,9 +313,7 @@ pub fn export_phase_with_stops<
     unsettled: &mut Unsettled,
 ) -> (Board<J, M>, Result<Exported, AllocError>)
     ensures board { WentOnWithStops false true (ranks_of stops.now) board result.0 }
-    ensures outcomes { IfOk result.1 (λ e. AreOutcomes board result.0 orders.now e.outcomes.items) }
-    ensures all { IfOk result.1 (λ e. AreAll board result.0 e.outcomes.items) }
-    ensures stopped { IfOk result.1 (λ e. AreStopped 8 board result.0.history stops.now e.stopped) }
+    ensures exported { IfOk result.1 (λ exported. AreExported board result.0 orders.now stops.now exported) }
     ensures unchanged { OnErr result.1 (result.0 ≡ board) }
 {
     let prepared = match prepare(alloc, &board, orders, unsettled) {

@@ -6,28 +6,24 @@
 
 mod desk;
 pub mod exporting;
+pub mod laying;
 pub mod phase;
 mod place;
 pub mod route;
 mod serving;
-pub mod stopping;
+mod stopping;
 pub mod totals;
 pub mod traffic;
-pub mod traffic_totals;
 mod turn;
 mod turns;
 mod under_way;
 pub mod work;
 
-pub use exporting::{
-    Exported, Places, Prepared, carry_out, export_phase, export_phase_from,
-    export_phase_with_stops, prepare,
-};
+pub use exporting::{Exported, export_phase, export_phase_from, export_phase_with_stops};
+pub use laying::Hands;
 pub use phase::{Ranks, serve_phase};
 pub use phased_board::{Gate, Known, OpenGate, Outcome, Phase, Phased, RankStop, Unsettled};
 pub use route::{OwnRank, Route};
-pub use stopping::Stopping;
-pub use totals::serve_with_totals;
-pub use traffic::{Tasks, Traffic, traffic_phase};
-pub use traffic_totals::traffic_with_totals;
+pub use totals::{serve_with_totals, traffic_with_totals};
+pub use traffic::{Gates, Tasks, Traffic, traffic_phase};
 pub use work::{Work, WorkAnswer, WorkError};

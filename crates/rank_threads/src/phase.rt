@@ -1,20 +1,20 @@
 //! The requests of all ranks, by a thread a rank.
-ghost use Rattle.std.specs.Prelude.{◌≡◌, ◌<◌, ◌≤◌, ◌+◌, [], ◌∷◌, ◌++◌, IfErr, IfOk, IsOk, List, false, true};
-ghost use Rattle.std.specs.Prelude.{OnErr, length, map, vec_capacity, vec_len};
-ghost use Rattle.std.specs.List.{All, AllZip};
+ghost use Rattle.std.specs.Global.{Global as TheGlobal};
+ghost use Rattle.std.specs.Prelude.{◌≡◌, ◌<◌, ◌≤◌, ◌+◌, [], ◌∷◌, ◌++◌, IfErr, IfOk, IsOk, List, Vec as TheVec};
+ghost use Rattle.std.specs.Prelude.{OnErr, false, length, map, true, vec_capacity, vec_len};
 ghost use Rattle.heat_ledger.specs.Ledger.{IsClean, ShareData};
 ghost use Rattle.rank_threads.specs.declared.work.Work.{Work as TheWork};
 ghost use Rattle.rank_threads.specs.Answered.{IsDepositTold};
-ghost use Rattle.phased_board.specs.Begun.{IsEndTold};
-ghost use Rattle.rank_threads.specs.Asking.{AreLaid, AreServed, IsRoomFor, askings};
-ghost use Rattle.phased_board.specs.Going.{WentOnBy, WentOnWithStops};
-ghost use Rattle.phased_board.specs.Stops.{ranks_of};
+ghost use Rattle.rank_threads.specs.Asking.{askings};
+ghost use Rattle.rank_threads.specs.Phases.{AreJoined, AreLaid, AreRequestsServed};
+ghost use Rattle.phased_board.specs.Going.{WentOnBy};
 ghost use Rattle.rank_threads.specs.Serving.{IsDeposited};
 ghost use Rattle.rank_threads.specs.Ways.{At, Way, hands_of, own_ranks};
 ghost use Rattle.proof_names.specs.Numbers.{AreApart};
 ghost use mathlib.Core.List.{IsPrefix};
 
 use crate::desk::{AskedRank, Desk, Done, Serving};
+use crate::laying::{Hands, Laid, lay, own_ways};
 use crate::route::{OwnRank, Route};
 use crate::work::{Work, WorkAnswer};
 use authority_map::Publisher;
@@ -23,7 +23,7 @@ use mds_board::{Board, BoardError};
 use mds_types::Rank;
 use phased_board::{Gate, Known, Phase, PhaseNames, Phased, first_refusal};
 use proof_names::Naming;
-use std::alloc::{AllocError, AllocFailed, Global};
+use std::alloc::{AllocFailed, Global};
 use std::marker::{Brand, Send, Sync};
 use std::sync::{Mutex, Wait};
 use std::thread;
@@ -50,16 +50,6 @@ pub struct Joined<J: Naming, W: Route, K: Phase> {
     pub answers: Vec<Vec<WorkAnswer>>,
     pub deposited: Result<(), BoardError>,
     pub known: Known<K>,
-}
-
-/// What a phase of requests has before its first: the share and the way of each rank, room for the answers, and room
-/// for the ranks that are asked.
-#[derive(Drop)]
-pub struct Laid<J: Naming, W: Route, K: Phase> {
-    pub shares: Vec<Share<J>>,
-    pub ways: Vec<W>,
-    pub rooms: Vec<Vec<WorkAnswer>>,
-    pub asked: Vec<AskedRank<J, W, K>>,
 }
 
 // Deposits a share's hits.
@@ -176,7 +166,7 @@ impl<
         laid: Laid<J, W, K>,
     ) -> Laid<J, W, K>
         requires requests { K.requests ≡ true }
-        requires laid { AreLaid scripts.now laid.shares (vec_len laid.ways) laid.rooms laid.asked }
+        requires laid { AreLaid scripts.now laid }
         ensures asked { result.asked.items ≡ askings (hands_of laid.shares.items (map W.way laid.ways.items))
             (map (λ s. s.items) scripts.now) }
         ensures empty { (result.shares.items ≡ []) × (result.ways.items ≡ []) × (result.rooms.items ≡ []) }
@@ -222,9 +212,7 @@ impl<
         ensures joined { (shares : List ShareData) (ways : List Way) (scripts : List (List TheWork))
             → length shares ≡ length scripts → length ways ≡ length scripts
             → asked.items ≡ askings (hands_of shares ways) scripts
-            → AreServed J.limit K.before result.known.seen shares ways scripts
-            (map (λ a. a.items) result.answers.items) result.shares.items (map W.way result.ways.items)
-            result.deposited }
+            → AreJoined J.limit K.before shares ways scripts result (map W.way result.ways.items) }
     {
         let mut asked = asked;
         let mut ranks = ranks;
@@ -245,11 +233,10 @@ impl<
         meanwhile: F,
     ) -> (Joined<J, W, K>, T)
         requires requests { K.requests ≡ true }
-        requires laid { AreLaid scripts.now laid.shares (vec_len laid.ways) laid.rooms laid.asked }
+        requires laid { AreLaid scripts.now laid }
         requires meanwhile { F.IsAlwaysCallable meanwhile }
-        ensures served { AreServed J.limit K.before result.0.known.seen laid.shares.items (map W.way laid.ways.items)
-            (map (λ s. s.items) scripts.now) (map (λ a. a.items) result.0.answers.items) result.0.shares.items
-            (map W.way result.0.ways.items) result.0.deposited }
+        ensures served { AreJoined J.limit K.before laid.shares.items (map W.way laid.ways.items)
+            (map (λ s. s.items) scripts.now) result.0 (map W.way result.0.ways.items) }
         ensures meanwhile { F.post meanwhile result.1 }
     {
         let Laid {
@@ -272,7 +259,7 @@ impl<
 
 /// Serves the requests of all ranks, each rank's by a thread of its own, while this thread does something else, and
 /// deposits each share's hits. It returns what came of this thread's work, too.
-pub fn serve_ranks<
+pub(crate) fn serve_ranks<
     'a,
     J: Naming + Send + Sync,
     M: Publisher<J> + Send,
@@ -292,11 +279,10 @@ pub fn serve_ranks<
     meanwhile: F,
 ) -> (Joined<J, W, K>, T)
     requires requests { K.requests ≡ true }
-    requires laid { AreLaid scripts.now laid.shares (vec_len laid.ways) laid.rooms laid.asked }
+    requires laid { AreLaid scripts.now laid }
     requires meanwhile { F.IsAlwaysCallable meanwhile }
-    ensures served { AreServed J.limit K.before result.0.known.seen laid.shares.items (map W.way laid.ways.items)
-        (map (λ s. s.items) scripts.now) (map (λ a. a.items) result.0.answers.items) result.0.shares.items
-        (map W.way result.0.ways.items) result.0.deposited }
+    ensures served { AreJoined J.limit K.before laid.shares.items (map W.way laid.ways.items)
+        (map (λ s. s.items) scripts.now) result.0 (map W.way result.0.ways.items) }
     ensures meanwhile { F.post meanwhile result.1 }
 {
     let serving = Serving::new(rt, alloc, cell, gate);
@@ -304,63 +290,17 @@ pub fn serve_ranks<
         thread::scope_env(),
         rt,
         |scope| -> (Joined<J, W, K>, T)
-            requires { AreLaid scripts.now laid.shares (vec_len laid.ways) laid.rooms laid.asked
-                × F.IsAlwaysCallable meanwhile × (K.requests ≡ true) }
-            ensures served { AreServed J.limit K.before result.0.known.seen laid.shares.items
-                (map W.way laid.ways.items) (map (λ s. s.items) scripts.entry.now)
-                (map (λ a. a.items) result.0.answers.items) result.0.shares.items (map W.way result.0.ways.items)
-                result.0.deposited }
+            requires { AreLaid scripts.now laid × F.IsAlwaysCallable meanwhile × (K.requests ≡ true) }
+            ensures served { AreJoined J.limit K.before laid.shares.items (map W.way laid.ways.items)
+                (map (λ s. s.items) scripts.entry.now) result.0 (map W.way result.0.ways.items) }
             ensures meanwhile { F.post meanwhile result.1 }
         { serving.serve_all(scope, scripts, laid, meanwhile) },
     )
 }
 
-// An empty list for each script, with room for its answers.
-fn rooms_for(alloc: Global, scripts: &[Vec<Work>]) -> Result<Vec<Vec<WorkAnswer>>, AllocError>
-    ensures { IfOk result (λ rooms. AllZip IsRoomFor scripts.now rooms.items) }
-{
-    let mut rooms = Vec::new(alloc);
-    for script in scripts {
-        rooms.push(Vec::with_capacity(alloc, script.len())?)?;
-    }
-    Ok(rooms)
-}
-
-/// Gives each share room for answers and ranks. Where memory is refused, it returns shares and ways.
-pub fn lay<J: Naming, W: Route, K: Phase>(
-    alloc: Global,
-    scripts: &[Vec<Work>],
-    shares: Vec<Share<J>>,
-    ways: Vec<W>,
-) -> Result<Laid<J, W, K>, AllocFailed<(Vec<Share<J>>, Vec<W>)>>
-    requires few { length scripts.now ≤ 64 }
-    requires equal { vec_len shares ≡ length scripts.now }
-    requires ways { vec_len ways ≡ length scripts.now }
-    ensures laid { IfOk result (λ laid. AreLaid scripts.now laid.shares (vec_len laid.ways) laid.rooms laid.asked
-        × (laid.shares.items ≡ shares.items) × (laid.ways.items ≡ ways.items)) }
-    ensures memory { IfErr result (λ e. e.value ≡ (shares, ways)) }
-{
-    let Ok(rooms) = rooms_for(alloc, scripts) else {
-        return Err(AllocFailed {
-            value: (shares, ways),
-        });
-    };
-    let Ok(asked) = Vec::with_capacity(alloc, scripts.len()) else {
-        return Err(AllocFailed {
-            value: (shares, ways),
-        });
-    };
-    Ok(Laid {
-        shares,
-        ways,
-        rooms,
-        asked,
-    })
-}
-
 /// Ends the requests of a phase that still run when its threads have joined. The history had `first` entries when the
 /// phase began. It returns what was under the lock, the ranks, and the way of each.
-pub fn close<J: Naming, M: Publisher<J>, W: Route, K: Phase>(
+pub(crate) fn close<J: Naming, M: Publisher<J>, W: Route, K: Phase>(
     alloc: Global,
     phased: Phased<J, M, K>,
     first: usize,
@@ -368,13 +308,9 @@ pub fn close<J: Naming, M: Publisher<J>, W: Route, K: Phase>(
 ) -> (Phased<J, M, K>, Ranks<J>, Vec<W>)
     requires requests { K.requests ≡ true }
     requires first { first ≡ length K.before.history }
-    ensures went { WentOnWithStops K.requests K.exports (ranks_of K.stops) K.before result.0 }
-    ensures served { (shares : List ShareData) (ways : List Way) (scripts : List (List TheWork))
-        → AreServed J.limit K.before joined.known.seen shares ways scripts (map (λ a. a.items) joined.answers.items)
-        joined.shares.items (map W.way joined.ways.items) joined.deposited → AreServed J.limit K.before result.0.history
-        shares ways scripts (map (λ a. a.items) result.1.answers.items) result.1.shares.items
-        (map W.way result.2.items) result.1.deposited }
-    ensures ended { IsEndTold K.before result.0 result.1.ended }
+    ensures { (shares : List ShareData) (ways : List Way) (scripts : List (TheVec TheWork TheGlobal))
+        → AreJoined J.limit K.before shares ways (map (λ s. s.items) scripts) joined (map W.way joined.ways.items)
+        → AreRequestsServed J.limit K.before result.0 shares ways scripts result.1 (map W.way result.2.items) }
 {
     let Joined {
         shares,
@@ -386,7 +322,6 @@ pub fn close<J: Naming, M: Publisher<J>, W: Route, K: Phase>(
     let mut phased = phased;
     let ended = phased.end_all(alloc, first);
     phased.compare(known);
-    phased.promises();
     let ranks = Ranks {
         shares,
         answers,
@@ -410,7 +345,7 @@ fn serve_named<
     names: PhaseNames,
     gate: &G,
     scripts: &[Vec<Work>],
-    hands: (Vec<Share<J>>, Vec<OwnRank>),
+    hands: Hands<J, OwnRank>,
 ) -> (Board<J, M>, Result<Ranks<J>, AllocFailed<Vec<Share<J>>>>)
     requires board { board ≡ K.before }
     requires orders { K.orders ≡ [] }
@@ -420,46 +355,30 @@ fn serve_named<
     requires log { names.log ≡ K.log }
     requires tickets { names.tickets ≡ K.numbers }
     requires few { length scripts.now ≤ 64 }
-    requires equal { vec_len hands.0 ≡ length scripts.now }
-    requires ways { map (λ own. At own.rank) hands.1.items ≡ own_ranks 0 (length scripts.now) }
+    requires equal { vec_len hands.shares ≡ length scripts.now }
+    requires ways { map (λ own. At own.rank) hands.ways.items ≡ own_ranks 0 (length scripts.now) }
     ensures board { WentOnBy true false K.before result.0 }
-    ensures served { IfOk result.1 (λ ranks. AreServed J.limit K.before result.0.history hands.0.items
-        (own_ranks 0 (length scripts.now)) (map (λ s. s.items) scripts.now) (map (λ a. a.items) ranks.answers.items)
-        ranks.shares.items (own_ranks 0 (length scripts.now)) ranks.deposited) }
-    ensures ended { IfOk result.1 (λ ranks. IsEndTold K.before result.0 ranks.ended) }
-    ensures memory { IfErr result.1 (λ e. e.value.items ≡ hands.0.items) }
+    ensures served { IfOk result.1 (λ ranks. AreRequestsServed J.limit K.before result.0 hands.shares.items
+        (own_ranks 0 (length scripts.now)) scripts.now ranks (own_ranks 0 (length scripts.now))) }
+    ensures memory { IfErr result.1 (λ e. e.value ≡ hands.shares) }
     ensures unchanged { OnErr result.1 (result.0 ≡ board) }
 {
-    let (shares, ways) = hands;
-    let laid = match lay::<J, OwnRank, K>(alloc, scripts, shares, ways) {
+    let laid = match lay::<J, OwnRank, K>(alloc, scripts, hands) {
         Ok(laid) => laid,
         Err(refused) => {
-            let (shares, _ways) = refused.value;
+            let Hands {
+                shares,
+                ways: _ways,
+            } = refused.value;
             return (board, Err(AllocFailed { value: shares }));
         }
     };
     let first = board.history().len();
-    let phased = Phased::<J, M, K>::new(board, Vec::new(alloc), false, names);
-    let cell = Mutex::new(phased);
+    let cell = Mutex::new(Phased::<J, M, K>::new(board, Vec::new(alloc), false, names));
     let (joined, ()) = serve_ranks(rt, alloc, &cell, gate, scripts, laid, || {});
     let (phased, ranks, _ways) = close(alloc, cell.into_inner(), first, joined);
     let (board, _standings) = phased.into_parts();
     (board, Ok(ranks))
-}
-
-// Each rank's own, for so many ranks.
-fn own_ways(alloc: Global, ranks: usize) -> Result<Vec<OwnRank>, AllocError>
-    requires few { ranks ≤ 64 }
-    ensures { IfOk result (λ ways. map (λ own. At own.rank) ways.items ≡ own_ranks 0 ranks) }
-{
-    let mut ways = Vec::with_capacity(alloc, ranks)?;
-    for number in 0..ranks {
-        let Some(rank) = Rank::new(number as u8) else {
-            unreachable!()
-        };
-        ways.push(OwnRank { rank })?;
-    }
-    Ok(ways)
 }
 
 /// Serves the requests of each rank in order, by a thread a rank, and deposits the hits of their shares. `scripts[k]`
@@ -484,10 +403,8 @@ pub fn serve_phase<
     requires few { length scripts.now ≤ 64 }
     requires equal { vec_len shares ≡ length scripts.now }
     ensures board { WentOnBy true false board result.0 }
-    ensures served { IfOk result.1 (λ ranks. AreServed J.limit board result.0.history shares.items
-        (own_ranks 0 (length scripts.now)) (map (λ s. s.items) scripts.now) (map (λ a. a.items) ranks.answers.items)
-        ranks.shares.items (own_ranks 0 (length scripts.now)) ranks.deposited) }
-    ensures ended { IfOk result.1 (λ ranks. IsEndTold board result.0 ranks.ended) }
+    ensures served { IfOk result.1 (λ ranks. AreRequestsServed J.limit board result.0 shares.items
+        (own_ranks 0 (length scripts.now)) scripts.now ranks (own_ranks 0 (length scripts.now))) }
     ensures memory { IfErr result.1 (λ e. e.value.items ≡ shares.items) }
     ensures unchanged { OnErr result.1 (result.0 ≡ board) }
 {
@@ -497,6 +414,6 @@ pub fn serve_phase<
     let Ok(names) = PhaseNames::new(alloc) else {
         return (board, Err(AllocFailed { value: shares }));
     };
-    let hands = (shares, ways);
+    let hands = Hands { shares, ways };
     serve_named::<J, M, Brand, R, G>(rt, alloc, board, names, gate, scripts, hands)
 }

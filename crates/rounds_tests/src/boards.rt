@@ -15,6 +15,7 @@ use heat_ledger::{NewBook, Share};
 use mds_board::{Board, BoardParts};
 use phased_board::Unsettled;
 use proof_names::Naming;
+use rank_threads::Hands;
 use std::alloc::{AllocError, Global};
 use std::marker::{Brand, Send, Sync};
 use std::process::Abort;
@@ -125,9 +126,12 @@ fn on_parts<J: Naming + Send + Sync, M: Publisher<J> + Send, R: Abort + Threads 
         return traffic::add_up(rt, alloc, parts, readers, limit);
     }
     let (board, shares) = board_of(rt, alloc, parts, limit, trial.ranks());
-    let seats = Seats {
+    let hands = Hands {
         shares,
-        readers,
+        ways: readers,
+    };
+    let seats = Seats {
+        hands,
         unsettled: Unsettled::new(alloc),
     };
     try_on(rt, alloc, board, seats, trial)

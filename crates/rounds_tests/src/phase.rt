@@ -1,12 +1,11 @@
 //! A phase of requests and exports, and what it leaves.
 
 use authority_map::{MapReader, Publisher};
-use heat_ledger::Share;
 use mds_board::Board;
 use mds_types::{Dir, Kind};
 use phased_board::{Gate, Unsettled};
 use proof_names::Naming;
-use rank_threads::{Outcome, Tasks, Traffic, Work, WorkAnswer, traffic_phase};
+use rank_threads::{Gates, Hands, Outcome, Tasks, Traffic, Work, WorkAnswer, traffic_phase};
 use std::alloc::{AllocError, Global};
 use std::marker::{Send, Sync};
 use std::process::Abort;
@@ -16,8 +15,7 @@ use std::thread::Threads;
 /// What is kept from one phase to the next beside the board.
 #[derive(Drop)]
 pub(crate) struct Seats<J: Naming> {
-    pub(crate) shares: Vec<Share<J>>,
-    pub(crate) readers: Vec<MapReader<J>>,
+    pub(crate) hands: Hands<J, MapReader<J>>,
     pub(crate) unsettled: Unsettled,
 }
 
@@ -89,45 +87,38 @@ fn try_phase<
     gate: &G,
 ) -> (Board<J, M>, Seats<J>, Option<Told>) {
     let Seats {
-        shares,
-        readers,
-        unsettled: mut left,
+        hands,
+        mut unsettled,
     } = seats;
     let ranks = tasks.scripts.len();
-    assert!(rt; ranks <= 64 && shares.len() == ranks && readers.len() == ranks);
-    let (board, done) = traffic_phase(
-        rt, alloc, board, shares, readers, tasks, gate, gate, &mut left,
-    );
-    let (shares, readers, told) = match done {
+    assert!(rt; ranks <= 64 && hands.shares.len() == ranks && hands.ways.len() == ranks);
+    let gates = Gates::same(gate);
+    let (board, done) = traffic_phase(rt, alloc, board, hands, tasks, gates, &mut unsettled);
+    let (hands, told) = match done {
         Ok(traffic) => taken(rt, traffic),
-        Err(refused) => (refused.value.0, refused.value.1, None),
+        Err(refused) => (refused.value, None),
     };
-    let seats = Seats {
-        shares,
-        readers,
-        unsettled: left,
-    };
-    (board, seats, told)
+    (board, Seats { hands, unsettled }, told)
 }
 
 // What a phase leaves, in which each request ended.
-fn taken<J: Naming>(
-    rt: &impl Abort,
-    left: Traffic<J>,
-) -> (Vec<Share<J>>, Vec<MapReader<J>>, Option<Told>) {
+fn taken<J: Naming>(rt: &impl Abort, left: Traffic<J>) -> (Hands<J, MapReader<J>>, Option<Told>) {
     let Traffic {
         ranks,
         readers,
-        outcomes,
-        stopped,
+        exported,
     } = left;
-    assert!(rt; ranks.ended.is_ok() && stopped.is_ok());
+    assert!(rt; ranks.ended.is_ok() && exported.stopped.is_ok());
     let told = Told {
         answers: ranks.answers,
-        outcomes,
+        outcomes: exported.outcomes,
         refused: false,
     };
-    (ranks.shares, readers, Some(told))
+    let hands = Hands {
+        shares: ranks.shares,
+        ways: readers,
+    };
+    (hands, Some(told))
 }
 
 /// A phase for readers that know all that is published, with one gate for requests and rounds. Where it is refused
@@ -146,7 +137,7 @@ pub(crate) fn phase<
     gate: &G,
 ) -> (Board<J, M>, Seats<J>, Told) {
     let mut seats = seats;
-    learn(&board, &mut seats.readers);
+    learn(&board, &mut seats.hands.ways);
     let (board, seats, told) = try_phase(rt, alloc, board, seats, tasks, gate);
     if let Some(told) = told {
         return (board, seats, told);

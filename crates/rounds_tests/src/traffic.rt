@@ -13,7 +13,7 @@ use mds_board::{Board, BoardParts, History, Shown};
 use mds_types::{Dir, Kind};
 use phased_board::Unsettled;
 use proof_names::Naming;
-use rank_threads::{Outcome, Tasks, traffic_with_totals};
+use rank_threads::{Gates, Hands, Outcome, Tasks, traffic_with_totals};
 use std::alloc::Global;
 use std::marker::{Send, Sync};
 use std::process::Abort;
@@ -101,12 +101,12 @@ pub(crate) fn serve_and_move<
     let (mut board, mut seats, told) = phase(rt, alloc, board, seats, tasks, &JitterGate);
     holds_in(rt, is_started(&told.outcomes), &told.outcomes);
     let first = total(&told.answers);
-    check(rt, &board, &mut seats.readers, first);
+    check(rt, &board, &mut seats.hands.ways, first);
     play(rt, alloc, &mut board, "between", &[Do::Stop(stopped)]);
     let (board, mut seats, told) = phase(rt, alloc, board, seats, tasks, &JitterGate);
     let (hits, begun) = total(&told.answers);
     let both = (first.0.wrapping_add(hits), first.1.wrapping_add(begun));
-    check(rt, &board, &mut seats.readers, both);
+    check(rt, &board, &mut seats.hands.ways, both);
     board.end();
 }
 
@@ -174,11 +174,13 @@ fn serve_whole<J: Naming + Send + Sync, M: Publisher<J> + Send, R: Abort + Threa
         stops: &[],
     };
     let mut none = Unsettled::new(alloc);
-    let gate = &JitterGate;
+    let gates = Gates::same(&JitterGate);
     assert!(rt; scripts.len() == 2 && readers.len() == 2);
-    let (board, done) = traffic_with_totals(
-        rt, alloc, board, shares, readers, tasks, gate, gate, &mut none,
-    );
+    let hands = Hands {
+        shares,
+        ways: readers,
+    };
+    let (board, done) = traffic_with_totals(rt, alloc, board, hands, tasks, gates, &mut none);
     let totals = (board.begun(Dir::ROOT), board.counted(Dir::ROOT, Kind::Read));
     board.end();
     assert!(rt; done.is_ok());

@@ -14,11 +14,10 @@ use crate::fault::Fault;
 use crate::load::Load;
 use crate::script_board::{ScriptBoard, Shortcuts, whole};
 use authority_map::{MapReader, Publisher};
-use heat_ledger::Share;
 use mds_board::Board;
 use mds_types::Order;
 use proof_names::Naming;
-use rank_threads::{OpenGate, RankStop, Tasks, Traffic, traffic_with_totals};
+use rank_threads::{Gates, Hands, OpenGate, RankStop, Tasks, Traffic, traffic_with_totals};
 use std::alloc::{AllocError, Global};
 use std::marker::{Send, Sync};
 use std::sync::Wait;
@@ -63,7 +62,7 @@ impl<J: Naming + Send + Sync, M: Publisher<J> + Send> ScriptBoard<J, M> {
             Err(error) => return (before, Err(error)),
         };
         let ranks = before.shares.len() as u8;
-        let readers = match before.board.reopen(alloc, ranks) {
+        let ways = match before.board.reopen(alloc, ranks) {
             Ok(readers) => readers,
             Err(error) => return (before, Err(error)),
         };
@@ -82,10 +81,10 @@ impl<J: Naming + Send + Sync, M: Publisher<J> + Send> ScriptBoard<J, M> {
             orders: &planned.orders,
             stops: &stops,
         };
+        let hands = Hands { shares, ways };
+        let gates = Gates::same(&OpenGate);
         let left = &mut shortcuts.unsettled;
-        let (board, done) = traffic_with_totals(
-            rt, alloc, board, shares, readers, tasks, &OpenGate, &OpenGate, left,
-        );
+        let (board, done) = traffic_with_totals(rt, alloc, board, hands, tasks, gates, left);
         match done {
             Ok(traffic) => {
                 let (hands, carried) = ScriptBoard::<J, M>::carried(&board, planned, traffic);
@@ -123,18 +122,18 @@ impl<J: Naming, M: Publisher<J>> ScriptBoard<J, M> {
         board: &Board<J, M>,
         planned: Planned,
         traffic: Traffic<J>,
-    ) -> ((Vec<Share<J>>, Vec<MapReader<J>>), Carried)
+    ) -> (Hands<J, MapReader<J>>, Carried)
         requires none { planned.refused.items ≡ [] }
         requires room { length planned.dealt.seats.items + 3 ≤ vec_capacity planned.refused }
-        ensures shares { result.0.0.items ≡ traffic.ranks.shares.items }
-        ensures readers { result.0.1.items ≡ traffic.readers.items }
+        ensures shares { result.0.shares.items ≡ traffic.ranks.shares.items }
+        ensures readers { result.0.ways.items ≡ traffic.readers.items }
         ensures one_line { All (λ r. IsPrefix r board.now.published ⊎ IsPrefix board.now.published r)
             traffic.readers.items }
         ensures told { result.1.refused.items ≡ (refusals (map (λ a. a.items) traffic.ranks.answers.items)
             planned.dealt.seats.items ++ unless_done traffic.ranks.ended ++ unless_done traffic.ranks.deposited)
-            ++ unless_done traffic.stopped }
+            ++ unless_done traffic.exported.stopped }
         ensures orders { result.1.orders.items ≡ planned.orders.items }
-        ensures outcomes { result.1.outcomes.items ≡ traffic.outcomes.items }
+        ensures outcomes { result.1.outcomes.items ≡ traffic.exported.outcomes.items }
     {
         let Planned {
             dealt,
@@ -144,18 +143,21 @@ impl<J: Naming, M: Publisher<J>> ScriptBoard<J, M> {
         let Traffic {
             ranks,
             readers,
-            outcomes,
-            stopped,
+            exported,
         } = traffic;
         compare(board, &readers);
         let (shares, mut refused) = ScriptBoard::<J, M>::told(&dealt, ranks, refused);
-        ScriptBoard::<J, M>::tell_rest(stopped, &mut refused);
+        ScriptBoard::<J, M>::tell_rest(exported.stopped, &mut refused);
         let carried = Carried {
             refused,
             orders,
-            outcomes,
+            outcomes: exported.outcomes,
         };
-        ((shares, readers), carried)
+        let hands = Hands {
+            shares,
+            ways: readers,
+        };
+        (hands, carried)
     }
 }
 
@@ -174,27 +176,30 @@ fn nothing(alloc: Global) -> (Vec<Load>, Vec<Order>, Vec<RankStop>)
 // The board with what waits. One of the readers is the report's from now on.
 fn put_together<J: Naming, M: Publisher<J>>(
     board: Board<J, M>,
-    hands: (Vec<Share<J>>, Vec<MapReader<J>>),
+    hands: Hands<J, MapReader<J>>,
     waiting: (Vec<Load>, Vec<Order>, Vec<RankStop>),
     shortcuts: Shortcuts,
 ) -> ScriptBoard<J, M>
     requires fits { IsBoard (record {
       world = board;
-      shares = hands.0.items;
+      shares = hands.shares.items;
       loads = waiting.0.items;
       kept = waiting.1.items;
       stops = waiting.2.items;
     }) }
-    requires reader { 0 < vec_len hands.1 }
+    requires reader { 0 < vec_len hands.ways }
     ensures { result ≡ record {
       world = board;
-      shares = hands.0.items;
+      shares = hands.shares.items;
       loads = waiting.0.items;
       kept = waiting.1.items;
       stops = waiting.2.items;
     } }
 {
-    let (shares, mut readers) = hands;
+    let Hands {
+        shares,
+        ways: mut readers,
+    } = hands;
     let Some(reader) = readers.pop() else {
         unreachable!()
     };

@@ -1,12 +1,13 @@
 //! Boards that are opened for what is timed.
 ghost use Rattle.std.specs.Prelude.{◌≡◌, ◌≤◌};
 
-use crate::phases::timing::{Phase, Seats, time_phase};
+use crate::phases::timing::{Phase, time_phase};
 use authority_map::{MapReader, MapWriter, NewMap, Publisher};
 use heat_ledger::NewBook;
 use mds_board::{Board, BoardParts};
 use mds_types::limits::DIR_LIMIT;
 use proof_names::Naming;
+use rank_threads::Hands;
 use std::alloc::Global;
 use std::marker::{Brand, Send, Sync};
 use std::sync::Wait;
@@ -26,7 +27,11 @@ fn time_parts<J: Naming + Send + Sync, M: Publisher<J> + Send, R: Threads + Wait
 {
     match Board::new(alloc, parts, DIR_LIMIT, ranks) {
         Ok((board, shares)) => {
-            time_phase(rt, alloc, board, Seats { shares, readers }, ranks, phase)
+            let hands = Hands {
+                shares,
+                ways: readers,
+            };
+            time_phase(rt, alloc, board, hands, ranks, phase)
         }
         Err(parts) => {
             parts.end();

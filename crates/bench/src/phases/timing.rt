@@ -13,7 +13,7 @@ use mds_types::limits::DIR_LIMIT;
 use mds_types::{Dir, Kind, Order};
 use phased_board::Unsettled;
 use proof_names::Naming;
-use rank_threads::{OpenGate, Tasks, export_phase, serve_phase, traffic_phase};
+use rank_threads::{Gates, Hands, OpenGate, Tasks, export_phase, serve_phase, traffic_phase};
 use std::alloc::Global;
 use std::marker::{Send, Sync};
 use std::sync::Wait;
@@ -26,13 +26,6 @@ use std::time::{Clock, Duration};
 pub struct Phase {
     pub work: Work,
     pub at_once: bool,
-}
-
-/// The share and the reader of each rank.
-#[derive(Drop)]
-pub struct Seats<J: Naming> {
-    pub shares: Vec<Share<J>>,
-    pub readers: Vec<MapReader<J>>,
 }
 
 // The wall time, or nothing where the system doesn't give it.
@@ -183,29 +176,18 @@ fn serve_and_export<J: Naming + Send + Sync, M: Publisher<J> + Send, R: Threads 
     rt: &R,
     alloc: Global,
     board: Board<J, M>,
-    seats: Seats<J>,
+    hands: Hands<J, MapReader<J>>,
     tasks: Tasks<'_>,
     at_once: bool,
 ) -> Board<J, M> {
-    let Seats { shares, readers } = seats;
     let ranks = tasks.scripts.len();
-    if at_once && ranks <= 64 && shares.len() == ranks && readers.len() == ranks {
+    if at_once && ranks <= 64 && hands.shares.len() == ranks && hands.ways.len() == ranks {
         let mut unsettled = Unsettled::new(alloc);
-        let (gate, rounds) = (&OpenGate, &OpenGate);
-        let (after, _left) = traffic_phase(
-            rt,
-            alloc,
-            board,
-            shares,
-            readers,
-            tasks,
-            gate,
-            rounds,
-            &mut unsettled,
-        );
+        let gates = Gates::same(&OpenGate);
+        let (after, _left) = traffic_phase(rt, alloc, board, hands, tasks, gates, &mut unsettled);
         return after;
     }
-    let board = serve(rt, alloc, board, tasks.scripts, shares, true);
+    let board = serve(rt, alloc, board, tasks.scripts, hands.shares, true);
     export(rt, alloc, board, tasks.orders)
 }
 
@@ -214,13 +196,13 @@ fn time_both<J: Naming + Send + Sync, M: Publisher<J> + Send, R: Threads + Wait 
     rt: &R,
     alloc: Global,
     board: Board<J, M>,
-    seats: Seats<J>,
+    hands: Hands<J, MapReader<J>>,
     tasks: Tasks<'_>,
     wanted: u64,
     at_once: bool,
 ) -> u64 {
     let start = wall(rt);
-    let board = serve_and_export(rt, alloc, board, seats, tasks, at_once);
+    let board = serve_and_export(rt, alloc, board, hands, tasks, at_once);
     let time = wall_since(rt, start);
     let is_served = counted(&board, tasks.scripts.len().min(64) as u8, 2) == wanted;
     let is_done = are_there(&board, tasks.orders);
@@ -243,10 +225,17 @@ pub fn time_phase<
     J: Naming + Send + Sync,
     M: Publisher<J> + Send,
     R: Threads + Wait + Clock + Sync,
->(rt: &R, alloc: Global, board: Board<J, M>, seats: Seats<J>, ranks: u8, phase: Phase) -> u64 {
+>(
+    rt: &R,
+    alloc: Global,
+    board: Board<J, M>,
+    hands: Hands<J, MapReader<J>>,
+    ranks: u8,
+    phase: Phase,
+) -> u64 {
     let (board, is_made) = make(rt, alloc, board, ranks, dirs_for(phase.work, ranks));
     if is_made {
-        return time_made(rt, alloc, board, seats, ranks, phase);
+        return time_made(rt, alloc, board, hands, ranks, phase);
     }
     board.end();
     u64::MAX
@@ -257,7 +246,7 @@ fn time_made<J: Naming + Send + Sync, M: Publisher<J> + Send, R: Threads + Wait 
     rt: &R,
     alloc: Global,
     board: Board<J, M>,
-    seats: Seats<J>,
+    hands: Hands<J, MapReader<J>>,
     ranks: u8,
     phase: Phase,
 ) -> u64 {
@@ -266,7 +255,7 @@ fn time_made<J: Naming + Send + Sync, M: Publisher<J> + Send, R: Threads + Wait 
         Work::Serve(hits) => {
             if let Ok(scripts) = scripts(alloc, ranks, hits, 1) {
                 let wanted = asked(ranks, hits);
-                return time_serve(rt, alloc, board, seats.shares, &scripts, wanted, at_once);
+                return time_serve(rt, alloc, board, hands.shares, &scripts, wanted, at_once);
             }
         }
         Work::Export => {
@@ -284,7 +273,7 @@ fn time_made<J: Naming + Send + Sync, M: Publisher<J> + Send, R: Threads + Wait 
                     stops: &[],
                 };
                 let wanted = asked(ranks, hits);
-                return time_both(rt, alloc, board, seats, tasks, wanted, at_once);
+                return time_both(rt, alloc, board, hands, tasks, wanted, at_once);
             }
         }
     }

@@ -1,6 +1,7 @@
 use Rattle.std.specs.List.{AllZip}
 use Rattle.std.proofs.Common.{◌≡◌, ◌∷◌, ◌∙◌, ◌++◌, ◌⊎◌, [], ℕ, Bool, List, Vec, Global, vec_capacity}
 use Rattle.std.proofs.Common.{false, true, inl, inr, length, take, ap, refl, sym, subst, arith, length-append}
+use Rattle.std.proofs.lemmas.Slice.Zip.{all_zipped_more}
 use Rattle.std.proofs.lemmas.List.{take_all, take_more}
 use Rattle.std.proofs.lemmas.List.Elements.{All-nil, All-push}
 use Rattle.rank_threads.specs.declared.work.Work.{Work}
@@ -11,7 +12,6 @@ use Rattle.rank_threads.specs.Tickets.{ticket_named, tickets_of}
 use Rattle.rank_threads.proofs.Naming.{tickets_more}
 use Rattle.rank_threads.proofs.Counting.{served_none, served_more}
 use Rattle.rank_threads.proofs.Later.{each_later}
-use Rattle.rank_threads.proofs.Returning.{zip_more}
 use Rattle.rank_threads.proofs.Routing.{each_held, held_further, held_still, one_since}
 use Rattle.rank_threads.proofs.desk.Serving.serve_script.Goals as goal
 
@@ -53,7 +53,7 @@ loop-number-preserved g c =
           (take number c.args.script.now) answers work a i.served said.fits said.short said.counted);
       as_many = omega arith;
       answered = λ has. rw (all, longer, sym c.index-script-number.is)
-          (zip_more (IsAnswered before c.answer_to-answer.new.done.known.seen old new) (take number c.args.script.now) answers work a
+          (all_zipped_more (IsAnswered before c.answer_to-answer.new.done.known.seen old new) (take number c.args.script.now) answers work a
           (each_later before c.loop-number.done.known.seen c.answer_to-answer.new.done.known.seen old new (take number c.args.script.now) answers said.seen
           (each_held before c.loop-number.done.known.seen old mid new (take number c.args.script.now) answers said.held (i.answered has)))
           (one_since before c.answer_to-answer.new.done.known.seen old mid new work a i.held (said.answered has)));

@@ -3,7 +3,7 @@ use Rattle.std.proofs.lemmas.List.{map-append}
 use Rattle.rank_threads.specs.Ways.{At, Way, own_ranks}
 use Rattle.rank_threads.specs.declared.route.OwnRank.{OwnRank}
 use Rattle.rank_threads.proofs.Routing.{own_more}
-use Rattle.rank_threads.proofs.phase.own_ways.Goals as goal
+use Rattle.rank_threads.proofs.laying.own_ways.Goals as goal
 
 pub loop-number-preserved : goal.loop-number-preserved
 loop-number-preserved c =
