@@ -2,4 +2,6 @@ pub mod FoldedHours
 pub mod Folds
 pub mod HeatBelow
 pub mod Keys
+pub mod ParentsFirst
+pub mod PastCounts
 pub mod StillKept

@@ -1,3 +1,4 @@
 pub mod Amounts
 pub mod Folding
 pub mod Keys
+pub mod TooMany

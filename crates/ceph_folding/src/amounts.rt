@@ -1,7 +1,8 @@
 //! Heat and inodes of directories as plain numbers, and what is added up of them.
-ghost use Rattle.std.specs.Prelude.{◌≡◌, ◌<◌, ℕ, length, slice_index, IfOk};
+ghost use Rattle.std.specs.Prelude.{◌≡◌, ◌<◌, ℕ, length, slice_index, IfErr, IfOk};
 ghost use Rattle.ceph_folding.specs.Amounts.{amount_at, amount_of};
 ghost use Rattle.ceph_folding.specs.Folding.{brought};
+ghost use Rattle.ceph_folding.specs.TooMany.{IsGrowthError, IsPastCount};
 
 use ceph_snapshot::{Directory, SnapshotError};
 use std::alloc::{AllocError, Global};
@@ -54,6 +55,8 @@ pub fn at_homes(alloc: Global, amounts: &[u64], homes: &[usize]) -> Result<Vec<u
     ensures size { IfOk result (λ sums. length sums.items ≡ length amounts.now) }
     ensures sums { IfOk result (λ sums. (there : ℕ) → there < length amounts.now → slice_index sums.items there
         ≡ brought (slice_index amounts.now) (slice_index homes.now) (length amounts.now) there) }
+    ensures many { IfErr result (IsGrowthError
+        (IsPastCount (slice_index amounts.now) (slice_index homes.now) (length amounts.now))) }
 {
     let mut sums = vec![in alloc; 0u64; amounts.len()]?;
     for at in 0..amounts.len() {
@@ -78,6 +81,8 @@ pub fn brought_home(
     ensures size { IfOk result (λ sums. length sums.items ≡ length directories.now) }
     ensures sums { IfOk result (λ sums. (there : ℕ) → there < length directories.now → slice_index sums.items there
         ≡ brought (amount_at amount directories.now) (slice_index homes.now) (length directories.now) there) }
+    ensures many { IfErr result (IsGrowthError
+        (IsPastCount (amount_at amount directories.now) (slice_index homes.now) (length directories.now))) }
 {
     let amounts = amounts_of(alloc, directories, amount)?;
     let sums = at_homes(alloc, &amounts, homes)?;

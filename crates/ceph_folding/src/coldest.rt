@@ -2,11 +2,12 @@
 //! A directory goes by the heat at and below it, so it never goes before what is below it; of two that are as cold
 //! the last goes first. One that isn't plain stays, and so does all above it. What is below a spread one isn't plain.
 ghost use Rattle.std.specs.Prelude.{◌≡◌, ◌<◌, ◌≤◌, ◌↔◌, ℕ, Bool, IsTrue, true, false, count_by};
-ghost use Rattle.std.specs.Prelude.{length, slice_index, slice_set, IfOk, IfSome};
+ghost use Rattle.std.specs.Prelude.{length, slice_index, slice_set, IfErr, IfOk, IfSome, None};
 ghost use Rattle.mds_types.specs.Sums.{count_below};
 ghost use Rattle.ceph_folding.specs.Folding.{AreGone, HasToStay, IsHeatBelow, IsPlain, kept_below};
 ghost use Rattle.ceph_snapshot.specs.Holding.{AreParentsFirst, is_marked, parent_at};
 ghost use Rattle.ceph_folding.specs.Keys.{goes, is_at_most, is_below, key_at, passes};
+ghost use Rattle.ceph_folding.specs.TooMany.{HaveToStay, IsGrowthError};
 
 use ceph_snapshot::{Directory, SnapshotError, own_heats};
 use std::alloc::{AllocError, Global};
@@ -114,6 +115,7 @@ fn last_key(mut keys: Vec<Key>, count: usize) -> Result<Option<Key>, AllocError>
         count ≤ count_by (λ key. is_at_most key last) keys.items)) }
     ensures needed { IfOk result (λ found. IfSome found (λ last.
         count_by (λ key. is_below key last) keys.items < count)) }
+    ensures few { IfOk result (λ found. found ≡ None → length keys.items < count) }
 {
     if keys.len() < count {
         return Ok(None);
@@ -154,6 +156,7 @@ pub fn coldest(
     ensures size { IfOk result (λ gone. length gone.items ≡ length directories.now) }
     ensures gone { IfOk result (λ gone. AreGone directories.now (is_marked gone.items)) }
     ensures left { IfOk result (λ gone. kept_below (is_marked gone.items) (length directories.now) ≡ limit) }
+    ensures many { IfErr result (IsGrowthError (HaveToStay directories.now limit)) }
 {
     let stays = staying(alloc, directories)?;
     let heats = heats_below(alloc, directories)?;

@@ -1,12 +1,13 @@
 //! Folds directories into those above them: the coldest, where there are more than the planner takes, or all but
 //! those that are units.
-ghost use Rattle.std.specs.Prelude.{◌≡◌, ◌+◌, ◌<◌, ◌≤◌, ◌^◌, ℕ, IsTrue, false, true};
-ghost use Rattle.std.specs.Prelude.{length, min, slice_get, slice_index, IfOk, IsOkAnd, OnErr};
+ghost use Rattle.std.specs.Prelude.{◌≡◌, ◌+◌, ◌<◌, ◌≤◌, ◌^◌, ◌↔◌, ℕ, IsTrue, false, true};
+ghost use Rattle.std.specs.Prelude.{length, min, slice_get, slice_index, IfErr, IfOk, IsOkAnd, OnErr};
 ghost use Rattle.std.specs.Option.{option_map};
 ghost use Rattle.ceph_folding.specs.Folding.{AreHoursFolded, AreHoursLeft, AreHoursOf, AreUnitsLeft, HasLeft};
 ghost use Rattle.ceph_folding.specs.Folding.{IsFolded, IsHome, IsPlain, StillKept};
 ghost use Rattle.ceph_folding.specs.Folding.{all_heat, all_inodes, all_writes};
 ghost use Rattle.ceph_folding.specs.Folding.{kept_below, put_together, with_amounts};
+ghost use Rattle.ceph_folding.specs.TooMany.{AreTooMany, AreTooManyToUnits, IsGrowthError, IsTooMuch};
 ghost use Rattle.ceph_snapshot.specs.Holding.{AreParentsFirst, is_marked, parent_at};
 ghost use Rattle.ceph_snapshot.specs.Policies.{KeepUnpinnable, StillKeepUnpinnable};
 
@@ -18,7 +19,7 @@ use std::alloc::{AllocError, Global};
 
 /// Whether the root names itself and each other directory comes after its parent.
 fn are_parents_first(directories: &[Directory]) -> bool
-    ensures { IsTrue result → AreParentsFirst directories.now }
+    ensures { IsTrue result ↔ AreParentsFirst directories.now }
 {
     for (at, directory) in directories.iter().enumerate() {
         if directory.parent as usize > at.saturating_sub(1) {
@@ -159,6 +160,7 @@ fn folded(
     ensures left { IfOk result (λ left. (home : ℕ → ℕ) × HasLeft directories.items left.items (is_marked gone.now) home
         × AreHoursLeft (is_marked gone.now) home hours.old.items hours.new.items) }
     ensures unchanged { OnErr result (hours.new.items ≡ hours.old.items) }
+    ensures many { IfErr result (IsGrowthError (IsTooMuch directories.items hours.old.items (is_marked gone.now))) }
 {
     let before = directories.as_slice();
     let homes = homes(alloc, before, gone)?;
@@ -198,6 +200,8 @@ pub fn fold(
         → IfOk result (λ found. StillKeepUnpinnable directories.items found.0.items) }
     ensures kept { IfOk result (λ found. StillKept directories.items found.0.items) }
     ensures count { IfOk result (λ found. length found.0.items + found.1 ≡ length directories.items) }
+    ensures many { AreParentsFirst directories.items
+        → IfErr result (IsGrowthError (AreTooMany directories.items limit hours.old.items)) }
 {
     let count = directories.len();
     if count <= limit {
@@ -268,6 +272,9 @@ pub fn fold_to_units(
         → IfOk result (λ found. StillKeepUnpinnable directories.items found.0.items) }
     ensures kept { IfOk result (λ found. StillKept directories.items found.0.items) }
     ensures count { IfOk result (λ found. length found.0.items + found.1 ≡ length directories.items) }
+    ensures first { IfOk result (λ found. AreParentsFirst found.0.items) }
+    ensures many { AreParentsFirst directories.items → IfErr result (IsGrowthError
+        (AreTooManyToUnits directories.items (is_marked units.now) hours.old.items)) }
 {
     let count = directories.len();
     if count > 1 << 32 || !are_parents_first(&directories) {

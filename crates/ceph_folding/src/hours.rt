@@ -1,6 +1,9 @@
 //! The heats of earlier hours, folded as the directories are.
-ghost use Rattle.std.specs.Prelude.{◌≡◌, ◌<◌, ℕ, false, length, slice_index, IfOk};
+ghost use Rattle.std.specs.Prelude.{◌≡◌, ◌<◌, ℕ, Vec, false, length, slice_index, IfErr, IfOk};
+ghost use Rattle.std.specs.Global.{Global};
+ghost use Rattle.std.specs.List.{IsAmong};
 ghost use Rattle.ceph_folding.specs.Folding.{AreHeatsLeft, AreHoursLeft, AreHoursOf, kept_below};
+ghost use Rattle.ceph_folding.specs.TooMany.{IsGrowthError, IsPastCount};
 ghost use Rattle.ceph_snapshot.specs.Holding.{is_marked};
 
 use crate::amounts::at_homes;
@@ -33,7 +36,10 @@ fn folded_hour(
     requires gone { length gone.now ≡ length heats.now }
     requires homes { length homes.now ≡ length heats.now }
     requires inside { (i : ℕ) → i < length heats.now → slice_index homes.now i < length heats.now }
-    ensures { IfOk result (λ left. AreHeatsLeft (is_marked gone.now) (slice_index homes.now) heats.now left.items) }
+    ensures left { IfOk result (λ left.
+        AreHeatsLeft (is_marked gone.now) (slice_index homes.now) heats.now left.items) }
+    ensures many { IfErr result (IsGrowthError
+        (IsPastCount (slice_index heats.now) (slice_index homes.now) (length heats.now))) }
 {
     let sums = at_homes(alloc, heats, homes)?;
     Ok(kept_heats(alloc, &sums, gone)?)
@@ -49,7 +55,10 @@ pub(crate) fn folded_hours(
     requires hours { AreHoursOf (length gone.now) hours.now }
     requires homes { length homes.now ≡ length gone.now }
     requires inside { (i : ℕ) → i < length gone.now → slice_index homes.now i < length gone.now }
-    ensures { IfOk result (λ left. AreHoursLeft (is_marked gone.now) (slice_index homes.now) hours.now left.items) }
+    ensures left { IfOk result (λ left.
+        AreHoursLeft (is_marked gone.now) (slice_index homes.now) hours.now left.items) }
+    ensures many { IfErr result (IsGrowthError ((hour : Vec ℕ Global) × IsAmong hours.now hour
+        × IsPastCount (slice_index hour.items) (slice_index homes.now) (length gone.now))) }
 {
     let mut left = Vec::with_capacity(alloc, hours.len())?;
     for hour in hours {

@@ -8,6 +8,8 @@ use Rattle.std.specs.Prelude.{string_bytes}
 use Rattle.ceph_dumps.specs.declared.listing.ListedDir.{ListedDir}
 use Rattle.ceph_dumps.specs.declared.subtrees.SubtreeRoot.{SubtreeRoot}
 use Rattle.ceph_dumps.specs.declared.dump_error.DumpError.{DumpError}
+use Rattle.ceph_folding.specs.TooMany.{IsGrowthError}
+use Rattle.ceph_snapshot.specs.declared.directory.Directory.{Directory}
 use Rattle.ceph_snapshot.specs.declared.gathering.Gathering.{Gathering}
 use Rattle.ceph_snapshot.specs.declared.snapshot_error.SnapshotError.{SnapshotError}
 use Rattle.ceph_snapshot.specs.declared.snapshot_error.SnapshotError.TheVariants as doubt
@@ -23,10 +25,12 @@ use Rattle.mdbal_ceph.specs.Dumps.{AreInodes, AreRankDumps, DumpKind, DumpValue,
 use Rattle.mdbal_ceph.specs.Dumps.{all_seen, file_in, rank_facts, ranks_below, root_facts, subtrees_file}
 use Rattle.mdbal_ceph.specs.Folder.{Failed, FileContent, IsInFile, IsInFileIfAny, Missing}
 use Rattle.mdbal_ceph.specs.NoResults.{claim_error, doubt_error, growth_error}
+use Rattle.mdbal_ceph.specs.NotMade.{AreTooManyToPlan, IsFoldingFault}
 use Rattle.mdbal_ceph.specs.declared.no_result.FileFault.{FileFault}
 use Rattle.mdbal_ceph.specs.declared.no_result.FileFault.TheVariants as fault
 use Rattle.mdbal_ceph.specs.declared.no_result.NoResult.{NoResult}
 use Rattle.mdbal_ceph.specs.declared.no_result.NoResult.TheVariants as why
+use Rattle.mdbal_ceph.specs.declared.past.EarlierHour.{EarlierHour}
 
 -- of an error, whichever it is
 pub on_err : {T E : Type 0} (r : Result T E) (P : Type 0) → P → OnErr r P
@@ -47,6 +51,13 @@ not_left numbered rest is h = absurd (let f : false ≡ true = subst (λ b. (b &
 pub growth_is : (e : SnapshotError) → IsGrowth (growth_error e)
 growth_is doubt.Memory = tt
 growth_is other = tt
+
+-- an error of folding
+pub folding_growth : (subvolumes : Bool) (collected : List Directory) (earlier : List EarlierHour) (Cause : Type 0) (e : SnapshotError)
+    → (Cause → AreTooManyToPlan subvolumes collected earlier) → IsGrowthError Cause e → IsFoldingFault subvolumes collected earlier (growth_error e)
+folding_growth subvolumes collected earlier Cause doubt.Memory so is = tt
+folding_growth subvolumes collected earlier Cause doubt.TooMany so is = so is
+folding_growth subvolumes collected earlier Cause other so is = absurd is
 
 module _ (reads : List ℕ → FileContent → Type 0) (says : List ℕ → DumpValue → Type 0) (refuses : DumpKind → List ℕ → DumpError → Type 0) (folder : List ℕ) where
   pub growth_in : (e : NoResult) → IsGrowth e → IsFolderFault reads says refuses folder e

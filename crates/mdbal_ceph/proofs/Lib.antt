@@ -13,3 +13,4 @@ pub mod SharedRows
 pub mod Simple
 pub mod Untouched
 pub mod Written
+pub mod WrongValues

@@ -49,7 +49,12 @@ IsNamedBy name Is why.Memory = ⊤
 IsNamedBy name Is (why.File told one) = (string_bytes told ≡ name) × Is one
 IsNamedBy name Is other = ⊥
 
--- memory was refused, or there are more directories than can be numbered
+-- memory was refused
+abbrev pub IsNoMemory : NoResult → Type 0
+IsNoMemory why.Memory = ⊤
+IsNoMemory other = ⊥
+
+-- or there are more directories than can be numbered
 abbrev pub IsGrowth : NoResult → Type 0
 IsGrowth why.Memory = ⊤
 IsGrowth why.TooMany = ⊤

@@ -3,7 +3,7 @@ use Rattle.std.specs.Prelude.{◌≡◌, ◌⊎◌, ℕ, List, [], ◌∷◌, So
 use Rattle.std.specs.Prelude.{if◌then◌else◌}
 use Rattle.std.specs.List.{fold}
 use Rattle.std.specs.Option.{option_map}
-use Rattle.clap.specs.Words.{App, Rule, Text, fault_of, matches_of, new_app, new_rule, with_rule}
+use Rattle.clap.specs.Words.{App, Row, Rule, Text, fault_of, matches_of, new_app, new_rule, with_rule}
 use Rattle.clap.specs.declared.builder.action.ArgAction.TheVariants.{Append, SetTrue}
 use Rattle.command_line.specs.Outcome.{Explains}
 use Rattle.command_line.specs.declared.options_error.OptionsError.{OptionsError}
@@ -11,9 +11,9 @@ use Rattle.command_line.specs.declared.options_error.OptionsError.TheVariants.{H
 use Rattle.mdbal_ceph.specs.declared.arguments.PlanOption.{PlanOption}
 use Rattle.mdbal_ceph.specs.declared.settings.PlanSettings.{PlanSettings}
 use Rattle.mdbal_ceph.specs.declared.settings.Refused.{Refused}
-use Rattle.mdbal_ceph.specs.declared.settings.Refused.TheVariants.{Value, Words}
+use Rattle.mdbal_ceph.specs.declared.settings.Refused.TheVariants.{ManyFolders, Value, Words}
 use Rattle.mdbal_ceph.specs.Options.{AreRead, FitTogether}
-use Rattle.mdbal_ceph.specs.RightValues.{AreNoneRight, AreRight}
+use Rattle.mdbal_ceph.specs.WrongValues.{AreRight, IsFirstWrong, value_order}
 
 -- `DIR ..`, of which one at least has to be there
 abbrev pub folder_rule : Rule
@@ -67,11 +67,25 @@ abbrev pub AreSettings : List Text → PlanSettings → Type 0
 AreSettings words settings =
     AreRead (matches_of mdbal_ceph words) settings × FitTogether settings × AreRight (matches_of mdbal_ceph words)
 
--- why the words give no settings: `clap` refuses them, or they ask for the help or the version; or `clap` takes them,
--- and the value of an option is none that it takes, or they don't fit together
+-- each value is one that its option takes, and the settings that they give don't fit together
+pub record DoNotFit (rows : List Row) : Type 0 where
+  pub right : AreRight rows
+  pub settings : PlanSettings
+  pub read : AreRead rows settings
+  pub unfit : FitTogether settings → ⊥
+
+-- why what `clap` found gives no settings: this value is the first that is wrong; or there are earlier hours where only
+-- one folder is looked at
+abbrev pub GivesNone : List Row → Refused → Type 0
+GivesNone rows (Words error) = ⊥
+GivesNone rows (Value wrong) = IsFirstWrong rows value_order wrong
+GivesNone rows ManyFolders = DoNotFit rows
+
+-- why the words give none: `clap` refuses them, or they ask for the help or the version; or `clap` takes them, and what
+-- it found gives none
 abbrev pub GivesNoSettings : List Text → Refused → Type 0
 GivesNoSettings words (Words error) = Explains (fault_of mdbal_ceph words) error
-GivesNoSettings words (Value option) = (fault_of mdbal_ceph words ≡ []) × AreNoneRight (matches_of mdbal_ceph words)
+GivesNoSettings words other = (fault_of mdbal_ceph words ≡ []) × GivesNone (matches_of mdbal_ceph words) other
 
 -- the status then: 0 where the help or the version was written, 1 where it could not be, and otherwise 2
 abbrev pub AnswersAs : OptionsError → ℕ → Type 0
@@ -82,4 +96,5 @@ AnswersAs (Denied error) status = status ≡ 2
 
 abbrev pub EndsAs : Refused → ℕ → Type 0
 EndsAs (Words error) status = AnswersAs error status
-EndsAs (Value option) status = status ≡ 2
+EndsAs (Value wrong) status = status ≡ 2
+EndsAs ManyFolders status = status ≡ 2

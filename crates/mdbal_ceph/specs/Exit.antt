@@ -16,12 +16,13 @@ use Rattle.mdbal_ceph.specs.Messages.{IsSaid}
 use Rattle.mdbal_ceph.specs.NotMade.{IsNotMade}
 use Rattle.mdbal_ceph.specs.Options.{AreNamed, IsPlanWritten}
 use Rattle.mdbal_ceph.specs.PlanChecks.{IsCompared}
+use Rattle.mdbal_ceph.specs.WrongValues.{wrong_text}
 use Rattle.mdbal_ceph.specs.Writing.{plan_status}
 use Rattle.mdbal_ceph.specs.declared.settings.PlanSettings.{PlanSettings}
 use Rattle.mdbal_ceph.specs.declared.no_result.NoResult.{NoResult}
 use Rattle.mdbal_ceph.specs.declared.no_result.NoResult.TheVariants as why
 use Rattle.mdbal_ceph.specs.declared.settings.Refused.{Refused}
-use Rattle.mdbal_ceph.specs.declared.settings.Refused.TheVariants.{Value, Words}
+use Rattle.mdbal_ceph.specs.declared.settings.Refused.TheVariants.{ManyFolders, Value, Words}
 use Rattle.mdbal_ceph.specs.declared.running.Made.{Made}
 use Rattle.mdbal_ceph.specs.declared.running.Made.TheVariants.{Checked, Named, Planned}
 use Rattle.mdbal_ceph.specs.declared.writing.PinFiles.{PinFiles}
@@ -132,8 +133,10 @@ IsAnswerSaid old new status other = IsHelpSaid old new status
 
 abbrev pub IsRefusalSaid : Option (List ℕ) → Option (List ℕ) → ℕ → Refused → Type 0
 IsRefusalSaid old new status (Words error) = IsAnswerSaid old new status error
-IsRefusalSaid old new status (Value option) =
-    Appends old new (codes "mdbal_ceph: " ++ option.now ++ codes ": see --help\n")
+IsRefusalSaid old new status (Value wrong) =
+    Appends old new (codes "mdbal_ceph: " ++ wrong_text wrong ++ codes ": see --help\n")
+IsRefusalSaid old new status ManyFolders =
+    Appends old new (codes "mdbal_ceph: --check and --paths0 take one DIR: see --help\n")
 
 module _ {W O M : Type 0} (reads : List ℕ → FileContent → Type 0) (says : List ℕ → DumpValue → Type 0)
     (refuses : DumpKind → List ℕ → DumpError → Type 0) (contents : W → Option (List ℕ))

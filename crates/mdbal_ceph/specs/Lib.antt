@@ -17,4 +17,5 @@ pub mod Past
 pub mod PlanChecks
 pub mod RightValues
 pub mod Usable
+pub mod WrongValues
 pub mod Writing

@@ -11,9 +11,11 @@ use Rattle.ceph_dumps.specs.PathList.{IsPathListError, path_bytes}
 use Rattle.ceph_dumps.specs.declared.cluster.FileSystemRanks.{FileSystemRanks}
 use Rattle.ceph_dumps.specs.declared.file_system.FileSystem.{FileSystem}
 use Rattle.ceph_folding.specs.Folding.{IsFolded}
+use Rattle.ceph_folding.specs.TooMany.{AreTooMany, AreTooManyToUnits}
 use Rattle.ceph_pins.specs.Back.{inverted}
 use Rattle.ceph_pins.specs.OwnPins.{AreOwnPins}
 use Rattle.ceph_pins.specs.PinsScript.{AreWritable}
+use Rattle.ceph_pins.specs.Volumes.{is_unit}
 use Rattle.ceph_plan.specs.ChosenHours.{IsChoiceRefusal}
 use Rattle.ceph_plan.specs.HourPlans.{IsHoursRefusal}
 use Rattle.ceph_plan.specs.MadeHours.{IsMadeRefusal}
@@ -23,18 +25,19 @@ use Rattle.ceph_plan.specs.declared.plan_error.PlanError.{PlanError}
 use Rattle.ceph_plan.specs.declared.proposal.OwnPins.{OwnPins}
 use Rattle.ceph_plan.specs.declared.row.PinChange.{PinChange}
 use Rattle.ceph_snapshot.specs.Hours.{AreHeatsThen}
+use Rattle.ceph_snapshot.specs.Policies.{dir_path_at}
 use Rattle.ceph_snapshot.specs.Rows.{AreRowsOf}
 use Rattle.ceph_snapshot.specs.declared.directory.Directory.{Directory}
 use Rattle.ceph_snapshot.specs.declared.held.Held.{Held}
-use Rattle.mdbal_ceph.specs.Causes.{IsCollectFault, IsFolderFault, IsGrowth, IsListedFault, IsNamedBy, IsNoHour}
+use Rattle.mdbal_ceph.specs.Causes.{IsCollectFault, IsFolderFault, IsListedFault, IsNoMemory, IsNamedBy, IsNoHour}
 use Rattle.mdbal_ceph.specs.Causes.{IsNoStored}
 use Rattle.mdbal_ceph.specs.Collections.{AreLeftOf, IsCollected}
 use Rattle.mdbal_ceph.specs.Dumps.{DumpKind, DumpValue}
 use Rattle.ceph_dumps.specs.declared.dump_error.DumpError.{DumpError}
 use Rattle.mdbal_ceph.specs.Folder.{Failed, FileContent, IsInFile}
-use Rattle.mdbal_ceph.specs.Hours.{AreGivenHours, has_heat}
+use Rattle.mdbal_ceph.specs.Hours.{AreGivenHours, AreSeenAt, has_heat}
 use Rattle.mdbal_ceph.specs.Options.{wanted_by}
-use Rattle.mdbal_ceph.specs.Outcomes.{ArePastOf, AreUnits, IsAskedBy, IsHeldHeat, IsOutcome}
+use Rattle.mdbal_ceph.specs.Outcomes.{ArePastOf, AreUnitHours, AreUnits, IsAskedBy, IsHeldHeat, IsOutcome}
 use Rattle.mdbal_ceph.specs.Past.{AreEarlier, is_same_file_system}
 use Rattle.mdbal_ceph.specs.Usable.{AreUsable, IsMask, cluster_mask}
 use Rattle.mdbal_ceph.specs.Writing.{proposed_changes}
@@ -111,7 +114,7 @@ IsOfAnother hour other = ⊥
 
 abbrev pub AreOthers : FileSystem → List EarlierHour → NoResult → Type 0
 AreOthers now earlier error =
-    IsGrowth error
+    IsNoMemory error
     ⊎ ((hour : EarlierHour) × IsAmong earlier hour × (is_same_file_system hour.kept.file_system now ≡ false)
     × IsOfAnother hour error)
 
@@ -125,7 +128,33 @@ HasNothingLeft directories hour other = ⊥
 
 abbrev pub IsPastFault : List Directory → List EarlierHour → NoResult → Type 0
 IsPastFault directories earlier error =
-    IsGrowth error ⊎ ((hour : EarlierHour) × IsAmong earlier hour × HasNothingLeft directories hour error)
+    IsNoMemory error ⊎ ((hour : EarlierHour) × IsAmong earlier hour × HasNothingLeft directories hour error)
+
+-- there are too many directories to fold them into the subvolumes and their groups, where these are planned
+abbrev pub AreTooManyForUnits : Bool → List Directory → List (Vec ℕ Global) → Type 0
+AreTooManyForUnits false collected hours = ⊥
+AreTooManyForUnits true collected hours =
+    AreTooManyToUnits collected (λ i. is_unit (dir_path_at collected i)) hours
+
+-- or to fold those that are planned one by one until there are as many as the planner takes
+pub record AreTooManyUnits (subvolumes : Bool) (collected : List Directory) (hours : List (Vec ℕ Global)) : Type 0 where
+  pub units : List Directory
+  pub units_are : AreUnits subvolumes collected units
+  pub at_units : List (Vec ℕ Global)
+  pub at_units_are : AreUnitHours subvolumes collected units hours at_units
+  pub many : AreTooMany units DIR_LIMIT at_units
+
+-- that is so with the heat of the earlier hours
+pub record AreTooManyToPlan (subvolumes : Bool) (collected : List Directory) (earlier : List EarlierHour) : Type 0 where
+  pub seen : List (Vec ℕ Global)
+  pub seen_are : AreSeenAt collected earlier seen
+  pub many : AreTooManyForUnits subvolumes collected seen ⊎ AreTooManyUnits subvolumes collected seen
+
+-- memory was refused, or there are too many directories
+abbrev pub IsFoldingFault : Bool → List Directory → List EarlierHour → NoResult → Type 0
+IsFoldingFault subvolumes collected earlier why.Memory = ⊤
+IsFoldingFault subvolumes collected earlier why.TooMany = AreTooManyToPlan subvolumes collected earlier
+IsFoldingFault subvolumes collected earlier other = ⊥
 
 -- the planner refuses what is planned of what was collected
 pub record IsNotDecided (settings : PlanSettings) (collected : Collected) (earlier : List EarlierHour)
@@ -145,10 +174,10 @@ pub record IsNotDecided (settings : PlanSettings) (collected : Collected) (earli
   pub refused : IsDecisionFault directories collected.snapshot.spread.items leave past asked error
 
 -- what was collected isn't planned: an earlier hour doesn't fit, the ranks can't be told, or the planner refuses it; or
--- memory was refused, or more comes together at a directory than can be counted
+-- memory was refused, or there are too many directories
 abbrev pub IsNotPlanned : PlanSettings → Collected → List EarlierHour → List (List ℕ) → NoResult → Type 0
 IsNotPlanned settings collected earlier leave error =
-    IsGrowth error
+    IsFoldingFault settings.subvolumes collected.snapshot.directories.items earlier error
     ⊎ (AreOthers collected.file_system earlier error
     ⊎ (IsUsableFault settings.mask (option_map string_bytes collected.cluster.mask) collected.cluster error
     ⊎ (IsPastFault collected.snapshot.directories.items earlier error

@@ -28,6 +28,7 @@ mod settings;
 mod source;
 mod values;
 mod writing;
+mod wrong_value;
 
 use dump_reader::CephDumps;
 use folder::SystemFolder;

@@ -3,9 +3,10 @@ ghost use Rattle.std.specs.Prelude.{◌≡◌, ◌≤◌, ◌+◌, All, IfErr, I
 ghost use Rattle.std.specs.Option.{option_map};
 ghost use Rattle.ceph_dumps.specs.PathList.{path_bytes};
 ghost use Rattle.ceph_folding.specs.Folding.{AreHoursFolded, AreHoursOf, IsFolded, StillKept};
+ghost use Rattle.ceph_folding.specs.TooMany.{AreTooMany, IsGrowthError};
 ghost use Rattle.ceph_snapshot.specs.Holding.{AreParentsFirst};
 ghost use Rattle.ceph_snapshot.specs.Snapshots.{IsSnapshot};
-ghost use Rattle.mdbal_ceph.specs.NotMade.{IsDecisionFault, IsNotPlanned, IsUsableFault};
+ghost use Rattle.mdbal_ceph.specs.NotMade.{AreTooManyForUnits, IsDecisionFault, IsNotPlanned, IsUsableFault};
 ghost use Rattle.mdbal_ceph.specs.Options.{wanted_by};
 ghost use Rattle.mdbal_ceph.specs.Outcomes.{AreFreeHeats, AreUnitHours, AreUnits, IsDecision, IsOutcome};
 ghost use Rattle.mdbal_ceph.specs.Outcomes.{hours_named};
@@ -184,6 +185,9 @@ fn units(
     ensures units { IfOk result (λ found. AreUnits subvolumes directories.items found.0.items) }
     ensures kept { IfOk result (λ found. StillKept directories.items found.0.items) }
     ensures count { IfOk result (λ found. length found.0.items + found.1 ≡ length directories.items) }
+    ensures first { AreParentsFirst directories.items → IfOk result (λ found. AreParentsFirst found.0.items) }
+    ensures many { AreParentsFirst directories.items
+        → IfErr result (IsGrowthError (AreTooManyForUnits subvolumes directories.items hours.old.items)) }
 {
     if !subvolumes {
         return Ok((directories, 0));
@@ -209,6 +213,8 @@ fn folded(
     ensures same { length directories.items ≤ DIR_LIMIT
         → IsOkAnd result (λ found. found.0.items ≡ directories.items) }
     ensures count { IfOk result (λ found. length found.0.items + found.1 ≡ length directories.items) }
+    ensures many { AreParentsFirst directories.items
+        → IfErr result (IsGrowthError (AreTooMany directories.items DIR_LIMIT hours.old.items)) }
 {
     fold(alloc, directories, DIR_LIMIT as usize, hours)
 }

@@ -1,21 +1,22 @@
 //! What the words of the command line ask for.
-ghost use Rattle.std.specs.Prelude.{◌≡◌, ◌&&◌, ◌||◌, [], IfErr, IfOk, codes, is_some, length, map, nat_lt};
+ghost use Rattle.std.specs.Prelude.{◌≡◌, ◌&&◌, ◌||◌, [], All, IfErr, IfOk, codes, is_some, length, map, nat_lt};
 ghost use Rattle.clap.specs.Words.{fault_of, found_of, matches_of, rows_of};
 ghost use Rattle.command_line.specs.Outcome.{Explains};
-ghost use Rattle.mdbal_ceph.specs.CommandLine.{AreSettings, EndsAs, GivesNoSettings, mdbal_ceph};
+ghost use Rattle.mdbal_ceph.specs.CommandLine.{AreSettings, EndsAs, GivesNoSettings, GivesNone, mdbal_ceph};
 ghost use Rattle.mdbal_ceph.specs.Exit.{IsRefusalSaid};
 ghost use Rattle.mdbal_ceph.specs.Options.{AreRead, FitTogether, IsFlag, IsPastNamed, folders_named, least_named};
 ghost use Rattle.mdbal_ceph.specs.Options.{parts_named, value_or};
-ghost use Rattle.mdbal_ceph.specs.RightValues.{AreNoneRight, AreRight, ArePartsNamed, IsAbsolute, IsLeastRight};
-ghost use Rattle.mdbal_ceph.specs.RightValues.{IsPastRight};
+ghost use Rattle.mdbal_ceph.specs.WrongValues.{AreRight, IsFirstWrong, IsRight, IsWrong, least_order, parts_order};
+ghost use Rattle.mdbal_ceph.specs.WrongValues.{past_order, value_order};
 
 use crate::answers::answer;
 use crate::arguments::command;
 use crate::matched::{folders_of, has_flag, value_of, value_or};
 use crate::messages::Messages;
 use crate::values::{
-    heat_if_any, heat_of, hours_of, inodes_if_any, made_of, mask_of, mount_of, parts_of, percent_of,
+    count_of, heat_if_any, heat_of, hours_of, inodes_if_any, made_of, mask_of, mount_of, percent_of,
 };
+use crate::wrong_value::{ValueOption, WrongValue};
 use ceph_plan::PartCount;
 use clap::ArgMatches;
 use command_line::OptionsError;
@@ -92,8 +93,10 @@ pub struct PlanSettings<'a> {
 pub enum Refused {
     /// The words are refused, or ask for the help or the version, or memory was refused.
     Words(OptionsError),
-    /// This option's value is neither of those that it takes.
-    Value(&'static str),
+    /// This value is wrong.
+    Value(WrongValue),
+    /// Earlier hours are given where only one folder is looked at.
+    ManyFolders,
 }
 
 impl Refused {
@@ -106,8 +109,13 @@ impl Refused {
     {
         match self {
             Refused::Words(error) => answer(error, writer, messages),
-            Refused::Value(option) => {
-                messages.say(format_args!("mdbal_ceph: {option}: see --help\n"));
+            Refused::Value(wrong) => {
+                let text = wrong.text();
+                messages.say(format_args!("mdbal_ceph: {text}: see --help\n"));
+                2
+            }
+            Refused::ManyFolders => {
+                messages.say("mdbal_ceph: --check and --paths0 take one DIR: see --help\n");
                 2
             }
         }
@@ -115,24 +123,21 @@ impl Refused {
 }
 
 /// What a plan has to come to.
-fn least_of(matches: &ArgMatches<'_>) -> Result<Least, &'static str>
+fn least_of(matches: &ArgMatches<'_>) -> Result<Least, WrongValue>
     ensures least { IfOk result (λ least. least ≡ least_named (rows_of (found_of matches.now))) }
-    ensures right { IfOk result (λ _. IsLeastRight (rows_of (found_of matches.now))) }
-    ensures wrong { IfErr result (λ _. IsLeastRight (rows_of (found_of matches.now)) → ⊥) }
+    ensures right { IfOk result (λ _. All (IsRight (rows_of (found_of matches.now))) least_order) }
+    ensures wrong { IfErr result (IsFirstWrong (rows_of (found_of matches.now)) least_order) }
 {
+    let heat = heat_if_any(value_of(matches, "least-heat"), ValueOption::LeastHeat)?;
+    let percent = percent_of(value_or(matches, "least-gain", "5"), ValueOption::LeastGain)?;
+    let each_thousand = heat_of(
+        value_or(matches, "least-by-inodes", "0"),
+        ValueOption::LeastByInodes,
+    )?;
     Ok(Least {
-        heat: heat_if_any(
-            value_of(matches, "least-heat"),
-            "--least-heat takes a whole number",
-        )?,
-        percent: percent_of(
-            value_or(matches, "least-gain", "5"),
-            "--least-gain takes a whole number from 0 to 255, without a percent sign",
-        )?,
-        each_thousand: heat_of(
-            value_or(matches, "least-by-inodes", "0"),
-            "--least-by-inodes takes a whole number",
-        )?,
+        heat,
+        percent,
+        each_thousand,
     })
 }
 
@@ -140,25 +145,27 @@ fn least_of(matches: &ArgMatches<'_>) -> Result<Least, &'static str>
 fn hours_asked<'a>(
     matches: &ArgMatches<'a>,
     folders: Vec<&'a str>,
-) -> Result<(&'a str, HoursAsked<'a>), &'static str>
+) -> Result<(&'a str, HoursAsked<'a>), WrongValue>
     ensures past { map (λ text. text.now) folders.entry.items ≡ folders_named (rows_of (found_of matches.now))
         → IfOk result (λ asked. IsPastNamed (rows_of (found_of matches.now)) asked.0.now asked.1) }
     ensures right { map (λ text. text.now) folders.entry.items ≡ folders_named (rows_of (found_of matches.now))
-        → IfOk result (λ _. IsPastRight (rows_of (found_of matches.now))) }
+        → IfOk result (λ _. All (IsRight (rows_of (found_of matches.now))) past_order) }
     ensures wrong { map (λ text. text.now) folders.entry.items ≡ folders_named (rows_of (found_of matches.now))
-        → IfErr result (λ _. IsPastRight (rows_of (found_of matches.now)) → ⊥) }
+        → IfErr result (IsFirstWrong (rows_of (found_of matches.now)) past_order) }
 {
     let mut earlier = folders;
     let Some(folder) = earlier.pop() else {
-        return Err("a DIR is missing");
+        return Err(WrongValue::NoFolder);
     };
     if folder.is_empty() {
-        return Err("a DIR is empty");
+        return Err(WrongValue::EmptyFolder);
     }
+    let hours = hours_of(value_or(matches, "hours", "24"))?;
+    let made = made_of(value_or(matches, "made", "0"))?;
     let past = HoursAsked {
         earlier,
-        hours: hours_of(value_or(matches, "hours", "24"))?,
-        made: made_of(value_or(matches, "made", "0"))?,
+        hours,
+        made,
     };
     Ok((folder, past))
 }
@@ -171,30 +178,33 @@ fn has_needless_past(settings: &PlanSettings) -> bool
     (settings.check.is_some() || settings.paths0) && !settings.past.earlier.is_empty()
 }
 
-/// Into how many parts the directories are divided.
-fn parts_asked(matches: &ArgMatches<'_>) -> Result<PartCount, &'static str>
+/// Into how many parts the directories are divided, where the other option names the most that `auto` tries.
+fn parts_asked(matches: &ArgMatches<'_>) -> Result<PartCount, WrongValue>
     ensures parts { IfOk result (λ parts. parts
         ≡ parts_named (value_or (rows_of (found_of matches.now)) (codes "parts") (codes "auto"))
         (value_or (rows_of (found_of matches.now)) (codes "most-pins") (codes "10000"))) }
-    ensures right { IfOk result (λ _. ArePartsNamed
-        (value_or (rows_of (found_of matches.now)) (codes "parts") (codes "auto"))
-        (value_or (rows_of (found_of matches.now)) (codes "most-pins") (codes "10000"))) }
-    ensures wrong { IfErr result (λ _. ArePartsNamed
-        (value_or (rows_of (found_of matches.now)) (codes "parts") (codes "auto"))
-        (value_or (rows_of (found_of matches.now)) (codes "most-pins") (codes "10000")) → ⊥) }
+    ensures right { IfOk result (λ _. All (IsRight (rows_of (found_of matches.now))) parts_order) }
+    ensures wrong { IfErr result (IsFirstWrong (rows_of (found_of matches.now)) parts_order) }
 {
-    let most = value_or(matches, "most-pins", "10000");
-    parts_of(value_or(matches, "parts", "auto"), most)
+    let most = count_of(
+        value_or(matches, "most-pins", "10000"),
+        ValueOption::MostPins,
+    )?;
+    let text = value_or(matches, "parts", "auto");
+    if text == "auto" {
+        return Ok(PartCount::Auto(most));
+    }
+    let count = count_of(text, ValueOption::Parts)?;
+    Ok(PartCount::AtMost(count))
 }
 
 /// Where the file system is mounted.
-fn mount_asked<'a>(matches: &ArgMatches<'a>) -> Result<&'a str, &'static str>
+fn mount_asked<'a>(matches: &ArgMatches<'a>) -> Result<&'a str, WrongValue>
     ensures mount { IfOk result (λ mount. mount.now
         ≡ value_or (rows_of (found_of matches.now)) (codes "mount") (codes "/mnt/cephfs")) }
-    ensures right { IfOk result (λ _. IsAbsolute
-        (value_or (rows_of (found_of matches.now)) (codes "mount") (codes "/mnt/cephfs"))) }
-    ensures wrong { IfErr result (λ _. IsAbsolute
-        (value_or (rows_of (found_of matches.now)) (codes "mount") (codes "/mnt/cephfs")) → ⊥) }
+    ensures right { IfOk result (λ _. IsRight (rows_of (found_of matches.now)) (WrongValue.Of ValueOption.Mount)) }
+    ensures wrong { IfErr result (λ wrong. (wrong ≡ WrongValue.Of ValueOption.Mount)
+        × IsWrong (rows_of (found_of matches.now)) wrong) }
 {
     mount_of(value_or(matches, "mount", "/mnt/cephfs"))
 }
@@ -203,20 +213,17 @@ fn mount_asked<'a>(matches: &ArgMatches<'a>) -> Result<&'a str, &'static str>
 fn found<'a>(
     matches: &ArgMatches<'a>,
     folders: Vec<&'a str>,
-) -> Result<PlanSettings<'a>, &'static str>
+) -> Result<PlanSettings<'a>, WrongValue>
     ensures read { map (λ text. text.now) folders.entry.items ≡ folders_named (rows_of (found_of matches.now))
         → IfOk result (AreRead (rows_of (found_of matches.now))) }
     ensures right { map (λ text. text.now) folders.entry.items ≡ folders_named (rows_of (found_of matches.now))
         → IfOk result (λ _. AreRight (rows_of (found_of matches.now))) }
     ensures wrong { map (λ text. text.now) folders.entry.items ≡ folders_named (rows_of (found_of matches.now))
-        → IfErr result (λ _. AreRight (rows_of (found_of matches.now)) → ⊥) }
+        → IfErr result (IsFirstWrong (rows_of (found_of matches.now)) value_order) }
 {
     let mask = mask_of(value_of(matches, "mask"))?;
     let parts = parts_asked(matches)?;
-    let keep = percent_of(
-        value_or(matches, "keep", "5"),
-        "--keep takes a whole number from 0 to 255, without a percent sign",
-    )?;
+    let keep = percent_of(value_or(matches, "keep", "5"), ValueOption::Keep)?;
     let (folder, past) = hours_asked(matches, folders)?;
     let most_inodes = inodes_if_any(value_of(matches, "most-inodes"))?;
     let least = least_of(matches)?;
@@ -244,20 +251,20 @@ fn found<'a>(
 }
 
 /// The settings that were found, where they fit together.
-fn fitting<'a>(
-    matches: &ArgMatches<'a>,
-    folders: Vec<&'a str>,
-) -> Result<PlanSettings<'a>, &'static str>
+fn fitting<'a>(matches: &ArgMatches<'a>, folders: Vec<&'a str>) -> Result<PlanSettings<'a>, Refused>
     ensures settings { map (λ text. text.now) folders.entry.items ≡ folders_named (rows_of (found_of matches.now))
         → IfOk result (λ settings. AreRead (rows_of (found_of matches.now)) settings × FitTogether settings) }
     ensures right { map (λ text. text.now) folders.entry.items ≡ folders_named (rows_of (found_of matches.now))
         → IfOk result (λ _. AreRight (rows_of (found_of matches.now))) }
     ensures wrong { map (λ text. text.now) folders.entry.items ≡ folders_named (rows_of (found_of matches.now))
-        → IfErr result (λ _. AreNoneRight (rows_of (found_of matches.now))) }
+        → IfErr result (GivesNone (rows_of (found_of matches.now))) }
 {
-    let settings = found(matches, folders)?;
+    let settings = match found(matches, folders) {
+        Ok(settings) => settings,
+        Err(wrong) => return Err(Refused::Value(wrong)),
+    };
     if has_needless_past(&settings) {
-        return Err("--check and --paths0 take one DIR");
+        return Err(Refused::ManyFolders);
     }
     Ok(settings)
 }
@@ -285,8 +292,6 @@ pub fn settings_of<'a, S: AsStr>(alloc: Global, words: &'a [S]) -> Result<PlanSe
     let Ok(folders) = folders_of(alloc, &matches) else {
         return Err(Refused::Words(OptionsError::Memory));
     };
-    match fitting(&matches, folders) {
-        Ok(settings) => Ok(settings),
-        Err(option) => Err(Refused::Value(option)),
-    }
+    let settings = fitting(&matches, folders)?;
+    Ok(settings)
 }

@@ -1,8 +1,9 @@
 use Rattle.std.proofs.Common.{◌≡◌, ◌<◌, ◌≤◌, ℕ, Bool, List, arith, false, length, not, subst, true}
 use Rattle.mds_types.proofs.SumsLemmas.{count_below-le}
 use Rattle.ceph_snapshot.specs.declared.directory.Directory.{Directory}
-use Rattle.ceph_snapshot.specs.Holding.{is_marked}
+use Rattle.ceph_snapshot.specs.Holding.{AreParentsFirst, is_marked}
 use Rattle.ceph_folding.specs.Folding.{AreHoursLeft, HasLeft, IsPlain}
+use Rattle.ceph_folding.proofs.ParentsFirst.{first_left}
 use Rattle.ceph_folding.proofs.Folds.{same_heat, same_inodes, same_writes}
 use Rattle.ceph_folding.proofs.StillKept.{still-unpinnable, units-kept}
 use Rattle.ceph_folding.proofs.folding.fold_to_units.Goals as goal
@@ -60,3 +61,11 @@ returns-clause-hours c = (
   subst (λ (gone : List Bool). AreHoursLeft (is_marked gone) c.in_ok-left.ensures.left.0 c.args.hours.now.items c.folded.new.hours.items)
       c.deref-3.ensures.value c.in_ok-left.ensures.left.2,
 )
+
+pub returns-clause-first : goal.returns-clause-first
+returns-clause-first c =
+    let ds : List Directory = c.args.directories.items in
+    let left = returns-clause-units c in
+    let first : AreParentsFirst ds =
+    subst AreParentsFirst c.deref.ensures.value (c.are_parents_first.ensures.0 c.if-not-are_parents_first.false) in
+    first_left ds c.in_ok-left.left.items left.gone left.home first left.plain left.has

@@ -4,17 +4,20 @@ use Rattle.std.specs.Prelude.{Vec}
 use Rattle.std.specs.Global.{Global}
 use Rattle.mds_types.specs.RankSet.{has_rank}
 use Rattle.mds_types.specs.Sums.{sum_below}
+use Rattle.mds_types.specs.declared.limits.TheConstants.{DIR_LIMIT}
 use Rattle.ceph_dumps.specs.PathList.{path_bytes}
 use Rattle.ceph_folding.specs.Folding.{AreHeatsLeft}
+use Rattle.ceph_folding.specs.TooMany.{AreTooMany}
 use Rattle.ceph_snapshot.specs.declared.directory.Directory.{Directory}
 use Rattle.ceph_plan.specs.Packing.{ArePlanRanks, IsAsGreat, IsBoundOf}
 use Rattle.mdbal_ceph.specs.Hours.{ArePastHours, IsSeenAt}
+use Rattle.mdbal_ceph.specs.NotMade.{AreTooManyForUnits}
 use Rattle.mdbal_ceph.specs.Outcomes.{AreFreeHeats, AreUnitHours, IsBoundOfAll, IsDecision}
 use Rattle.mdbal_ceph.specs.declared.hours.PastHour.{PastHour}
 use Rattle.mdbal_ceph.specs.declared.outcome.Decision.{Decision}
 use Rattle.mdbal_ceph.specs.declared.past.EarlierHour.{EarlierHour}
 use Rattle.mdbal_ceph.specs.declared.planning.PlanAsked.{PlanAsked}
-use Rattle.mdbal_ceph.proofs.Faults.{growth_is}
+use Rattle.mdbal_ceph.proofs.Faults.{folding_growth}
 use Rattle.mdbal_ceph.proofs.Kept.{kept_through}
 use Rattle.mdbal_ceph.proofs.PastHours.{past_sizes, past_spreads, same_length}
 use Rattle.mdbal_ceph.proofs.PresentPinned.{present_pinned}
@@ -156,12 +159,35 @@ returns-in_err-hours-clause-failed c =
 pub returns-in_err-units-clause-failed : goal.returns-in_err-units-clause-failed
 returns-in_err-units-clause-failed c =
     let e = err_from_is_err_and c.from_residual-in_err-units.result c.from_residual-in_err-units.ensures.1 in
-    rw (e.1, e.2) (inl (growth_is _))
+    rw (e.1, e.2)
+    (inl (folding_growth c.args.settings.now.subvolumes c.args.collected.snapshot.directories.items c.args.earlier.now
+    (AreTooManyForUnits c.args.settings.now.subvolumes c.args.collected.snapshot.directories.items c.in_ok-hours.hours.items)
+    c.in_err-units.field-0.0
+    (λ many. record {
+      seen = c.in_ok-hours.hours.items;
+      seen_are = rw c.deref.ensures.value at c.in_ok-hours.ensures.each;
+      many = inl many;
+    })
+    (c.in_err-units.ensures.many c.requires.snapshot.first)))
 
 pub returns-in_err-directories-clause-failed : goal.returns-in_err-directories-clause-failed
 returns-in_err-directories-clause-failed c =
     let e = err_from_is_err_and c.from_residual-in_err-directories.result c.from_residual-in_err-directories.ensures.1 in
-    rw (e.1, e.2) (inl (growth_is _))
+    rw (e.1, e.2)
+    (inl (folding_growth c.args.settings.now.subvolumes c.args.collected.snapshot.directories.items c.args.earlier.now
+    (AreTooMany c.in_ok-units.units.items DIR_LIMIT c.units.new.hours.items) c.in_err-directories.field-0.0
+    (λ many. record {
+      seen = c.in_ok-hours.hours.items;
+      seen_are = rw c.deref.ensures.value at c.in_ok-hours.ensures.each;
+      many = inr (record {
+        units = c.in_ok-units.units.items;
+        units_are = c.in_ok-units.ensures.units;
+        at_units = c.units.new.hours.items;
+        at_units_are = c.in_ok-units.ensures.hours;
+        many = many;
+      });
+    })
+    (c.in_err-directories.ensures.many (c.in_ok-units.ensures.first c.requires.snapshot.first))))
 
 pub returns-in_err-decision-clause-failed : goal.returns-in_err-decision-clause-failed
 returns-in_err-decision-clause-failed c =
