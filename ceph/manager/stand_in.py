@@ -70,6 +70,7 @@ class Cluster:
         self.directories[b''].inode = 1
         self.moved = {}       # type: Dict[bytes, int]  # pins that were set, by path
         self.exported = {}    # type: Dict[bytes, int]  # directories that were moved without a pin
+        self.late = set()     # type: Set[bytes]  # directories that do not move by their pins
         self.slow_looks = 0   # so many looks at roots find the last pin's directory under way
         self.checks = {}      # type: Dict[str, Any]
         self.kept = {}        # type: Dict[str, str]  # the store of the monitors
@@ -193,7 +194,8 @@ class Library:
             raise Error(errno.EPERM, 'not permitted')
         assert name == 'ceph.dir.pin'
         self.cluster.directories[path].pin = int(value)
-        self.cluster.moved[path] = int(value)
+        if path not in self.cluster.late:
+            self.cluster.moved[path] = int(value)
         self.cluster.sets.append((path, int(value)))
 
     def mds_command(self, mds: str, command: str, _: bytes) -> Tuple[int, bytes, str]:

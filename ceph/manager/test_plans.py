@@ -18,6 +18,7 @@ from on_sample import ROOM, SAMPLE, TOP, OnSample
 
 from mdbal import programs
 from mdbal.hours import packed, unpacked
+from mdbal.jobs import Work
 from mdbal.module import Job, Module
 from mdbal.state import State
 from mdbal.texts import escaped, read_plan
@@ -101,6 +102,37 @@ class Plans(OnSample):
         self.assertEqual(told["plan"]["greatest_to_mean"], 3.0)
         self.assertEqual(self.module.status("none"), (-2, "", "there is no file system none"))
 
+    def test_status_says_what_is_set(self) -> None:
+        name = self.planned()
+        count = len(read_plan(self.record().planned.plan.text).changes)
+        self.do("apply", name)
+        self.assertIn(f"  set: {name}, done, {count} of {count} changes may be set\n", self.module.status("lab")[1])
+        self.do("rollback")
+        self.assertIn(f"  restore: {name}, done, 0 of {count} changes may be set\n", self.module.status("lab")[1])
+
+    def test_status_of_an_idle_file_system(self) -> None:
+        self.module.options["least_heat"] = 10**6
+        self.do("plan")
+        self.assertIn("  plan: idle: too little load to plan for\n", self.module.status("lab")[1])
+        self.assertNotIn("greatest_to_mean", self.module.metrics()[1])
+
+    def test_options_reach_the_program(self) -> None:
+        asked = dict(least_gain=7, keep=9, most_pins=33, least_heat=44, most_inodes=55, mask="0x3", leave="/a\\040b /c\\134")
+        with tempfile.TemporaryDirectory() as room, unittest.mock.patch.dict(self.module.options, asked):
+            words = Work(self.module, self.record(), None).options(room)
+            self.assertEqual(words, ["--least-gain", "7", "--keep", "9", "--most-pins", "33", "--least-heat", "44", "--most-inodes", "55",
+                                     "--mask=0x3", "--leave", f"{room}/leave"])
+            with open(f"{room}/leave", "rb") as it:
+                self.assertEqual(it.read(), b"/a b\n/c\\134\n")
+        with tempfile.TemporaryDirectory() as room:
+            self.assertEqual(Work(self.module, self.record(), None).options(room)[-2:], ["--most-pins", "1000"])
+
+    def test_directories_that_are_left_are_in_no_plan(self) -> None:
+        path = self.change(0).path
+        with unittest.mock.patch.dict(self.module.options, {"leave": escaped(path)}):
+            self.do("plan")
+            self.assertNotIn(path, [it.path for it in read_plan(self.record().planned.plan.text).changes])
+
     def test_metrics_have_the_names_of_the_rounds(self) -> None:
         self.planned()
         text = self.module.metrics()[1]
@@ -167,6 +199,9 @@ class Plans(OnSample):
         with tempfile.TemporaryDirectory() as room:
             programs.FOLDERS = [room]
             self.assertEqual(Module.can_run(), (False, f"no program mdbal_ceph in {room}"))
+            programs.FOLDERS = [ROOM.name]
+            self.assertEqual(Module.can_run(), (True, ""))
+            programs.FOLDERS = [room]
             self.assertIn("no program mdbal_ceph", self.do("plan"))
             for text, why in (("exit 1", "ended with status 1: "), ("echo it broke >&2; exit 77", "status 77: it broke"), ("sleep 60", "ran longer than")):
                 with open(f"{room}/mdbal_ceph", "w", encoding="ascii") as it:

@@ -57,6 +57,20 @@ class Runs(OnSample):
         self.do("rollback")
         self.assertNotIn("MDBAL_NOT_HELD", self.module.health)
 
+    def test_apply_waits_for_pins_that_do_not_hold_and_no_longer(self) -> None:
+        name, said = self.planned(), []
+        self.module.say = lambda fs, doing: said.append(doing)
+        self.do("apply", name)
+        self.assertEqual([it for it in said if it.startswith("waits")], [])
+        self.do("rollback")
+        name = self.planned()
+        path = read_plan(self.record().planned.plan.text).changes[0].path
+        self.cluster.at_set = lambda at: self.cluster.late.add(path)
+        self.module.options["wait"] = 20
+        self.assertRegex(self.do("apply", name), r"; \d+ of \d+ pins hold$")
+        self.assertEqual(len([it for it in said if it.startswith("waits")]), 4)
+        self.assertIn("MDBAL_NOT_HELD", self.module.health)
+
     def test_empty_directories_do_not_count(self) -> None:
         self.do("apply", self.planned())
         path = self.cluster.sets[-1][0]
