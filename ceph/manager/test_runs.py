@@ -3,6 +3,7 @@ import json
 import queue
 import threading
 import time
+import unittest.mock
 
 from on_sample import OnSample
 
@@ -70,6 +71,40 @@ class Runs(OnSample):
         self.assertRegex(self.do("apply", name), r"; \d+ of \d+ pins hold$")
         self.assertEqual(len([it for it in said if it.startswith("waits")]), 4)
         self.assertIn("MDBAL_NOT_HELD", self.module.health)
+
+    def test_looks_count_for_the_wait(self) -> None:
+        name, said = self.planned(), []
+        path = read_plan(self.record().planned.plan.text).changes[0].path
+        self.cluster.at_set = lambda at: self.cluster.late.add(path)
+        self.module.say = lambda fs, doing: said.append(doing)
+        self.module.options["wait"] = 20
+        clock = iter(range(0, 10**6, 10))  # each look takes ten seconds
+        with unittest.mock.patch("mdbal.jobs.time.monotonic", lambda: next(clock)):
+            self.do("apply", name)
+        self.assertLessEqual(len([it for it in said if it.startswith("waits")]), 2)
+
+    def test_wait_goes_on_while_subtrees_move(self) -> None:
+        name, said = self.planned(), []
+        count = len(read_plan(self.record().planned.plan.text).changes)
+
+        def say(fs: str, doing: str) -> None:
+            if len(self.cluster.sets) == count and doing == "reading the ranks" and doing not in said:
+                self.cluster.slow_looks = 18  # the looks at roots of one check
+            said.append(doing)
+        self.module.say = say
+        self.assertRegex(self.do("apply", name), r"; (\d+) of \1 pins hold$")
+        self.assertIn("waits: not checked: subtrees moved while they were read: try again later", said)
+
+    def test_run_that_off_ends_is_no_warning(self) -> None:
+        name = self.planned()
+        self.cluster.at_set = lambda path: self.module.off("lab")
+        self.assertIn("it was turned off", self.do("apply", name))
+        self.assertEqual(self.module.health, {})
+        self.assertIn("  stopped: stopped it was turned off; up to ", self.module.status("lab")[1])
+        self.assertIn('mdbal_stopped{fs="lab"} 0', self.module.metrics()[1])
+        self.do("off")
+        self.cluster.at_set = lambda path: None
+        self.assertRegex(self.do("apply", name), r"^apply: set \w+: \d+ of \d+ changes")
 
     def test_empty_directories_do_not_count(self) -> None:
         self.do("apply", self.planned())
@@ -326,6 +361,26 @@ class Rounds(OnSample):
         self.assertIn('mdbal_round_status{fs="lab"} 3', self.module.metrics()[1])
         self.record().state.time -= 2 * int(self.module.options["wait"]) + 1
         self.assertNotIn("last run", self.do("round"))
+
+    def test_round_leaves_alone_what_was_too_slow(self) -> None:
+        self.do("on")
+        self.cluster.slow_looks = 10**6
+        self.module.options.update(wait=20, batch=1)
+        self.assertIn("too-slow", self.do("round"))
+        self.assertIn("MDBAL_STOPPED", self.module.health)
+        self.cluster.slow_looks = 0
+        path = self.cluster.sets[0][0]
+        self.cluster.moved.pop(path)
+        self.cluster.sets.clear()
+        self.assertRegex(self.do("round"), r"^round: no pin is changed while directories of the last run move")
+        self.assertEqual(self.cluster.sets, [])
+
+    def test_round_while_subtrees_move_is_no_warning(self) -> None:
+        self.do("on")
+        self.do("round")
+        self.cluster.slow_looks = 10**6
+        self.assertEqual(self.do("round"), "round: subtrees moved while they were read: try again later")
+        self.assertEqual(self.module.health, {})
 
     def test_round_that_may_not_begin(self) -> None:
         self.do("on")

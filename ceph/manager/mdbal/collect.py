@@ -4,7 +4,7 @@ import os
 from typing import Callable, Dict, Iterator, List
 
 from .cluster import Cluster, Facts
-from .texts import Trouble, listed
+from .texts import Refused, Trouble, listed
 
 TRIES = 3
 
@@ -26,7 +26,7 @@ class Collector:
             if self._are_taken(samples, pause, most_directories):
                 break
             if not left:
-                raise Trouble('subtrees moved while they were read: try again later')
+                raise Refused('subtrees moved while they were read: try again later')
             self.rest(pause)
         seconds, automate = self.cluster.balancer()
         flag = '' if automate is None else 'balance_automate {}\n'.format(str(automate).lower())

@@ -12,15 +12,12 @@ from .hours import Hours
 from .once import Trial, why_not
 from .programs import Host, Stop
 from .record import Planned, Record
-from .state import State
-from .texts import Trouble, id_of, listed, own_pins, pins_list, read_plan, unescaped
+from .state import SLOW, TURNED_OFF, State
+from .texts import Refused, Trouble, id_of, listed, own_pins, pins_list, read_plan, unescaped
 
 PAUSE = 5  # seconds from one check to the next, until the pins hold
+UNKNOWN = 'not checked: '  # before the reason why it is not known whether pins hold
 REST = 10  # seconds in which a pin that was just set may be read as its old value
-
-
-class Refused(Trouble):
-    """Nothing is wrong with mdbal, but it may not set pins now."""
 
 
 class Work:
@@ -38,7 +35,7 @@ class Work:
             if self.mgr.sleep(part):
                 raise Stop('the manager stops')
             if self.record.is_to_stop:
-                raise Stop('it was turned off')
+                raise Stop(TURNED_OFF)
             seconds -= part
             if seconds <= 0:
                 return
@@ -234,14 +231,23 @@ class Work:
         left = float(self.mgr.get_module_option('wait'))
         try:
             while True:
-                held = self.check()
-                if not self.record.not_held or left <= 0:
+                begun = time.monotonic()
+                held = self.check_again()
+                if left <= 0 or not held.startswith(UNKNOWN) and not self.record.not_held:
                     return held
                 self.say('waits: {}'.format(held))
                 self.rest_of_run(PAUSE)
-                left -= PAUSE
+                left -= max(PAUSE, time.monotonic() - begun)  # a look takes seconds, too
         except Trouble as trouble:
-            self.record.held = 'not checked: {}'.format(trouble)
+            self.record.held = UNKNOWN + str(trouble)
+            return self.record.held
+
+    def check_again(self) -> str:
+        """What a check says, or why nobody can say: subtrees move while they are read."""
+        try:
+            return self.check()
+        except Refused as why:
+            self.record.held = UNKNOWN + str(why)
             return self.record.held
 
     def round(self) -> str:
@@ -257,7 +263,7 @@ class Work:
         """Whether pins of the last run may still come to hold. A plan takes a directory to be where it lies, so it could take
         back what is under way. After twice the time that a batch may take, what does not hold is planned for as it lies."""
         state, longest = self.record.state, 2 * float(self.mgr.get_module_option('wait'))
-        return bool(self.record.not_held) and state.ended == 'done' and time.time() < state.time + longest
+        return bool(self.record.not_held) and state.ended in ('done', SLOW) and time.time() < state.time + longest
 
 
 class Run:

@@ -23,11 +23,11 @@ from .cli import Registry, command
 from .cluster import Cluster, file_systems
 from .endpoint import Endpoint
 from .hands import Hands, NoAnswer
-from .jobs import Refused, Work
+from .jobs import Work
 from .record import Record
 from .rounds import served
 from .state import Store
-from .texts import Trouble, id_of
+from .texts import Refused, Trouble, id_of
 
 Answer = Tuple[int, str, str]
 FIRST_ROUND = 60  # seconds after the manager began, when it knows the cluster

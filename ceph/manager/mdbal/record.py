@@ -4,7 +4,7 @@ from typing import List, NamedTuple, Optional
 
 from .programs import Plan
 from .rounds import Watch
-from .state import State
+from .state import TURNED_OFF, State
 from .texts import PlanText, id_of, read_plan
 
 
@@ -58,6 +58,10 @@ class Record:
     def how_to_go_on(self) -> str:
         return 'up to {} of {} pins are set: `ceph fs mdbal apply {} {}` goes on, `rollback` restores'.format(
             self.text.begun, len(self.text.changes), self.name, id_of(self.state.text))
+
+    def trouble(self) -> str:
+        """Why it stopped, for a warning: nothing where `off` ended the last run."""
+        return '' if self.state.ended == 'stopped ' + TURNED_OFF else self.stopped
 
     def say(self, said: str, is_well: bool) -> None:
         self.said, self.is_well, self.time = said, is_well, int(time.time())

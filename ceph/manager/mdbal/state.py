@@ -6,6 +6,8 @@ from typing import Any, Callable, Dict, List, Optional
 from .texts import Trouble
 
 VERSION = 1    # of the form below. State of a newer one is refused: a standby manager keeps old code until it is restarted
+TURNED_OFF = 'it was turned off'  # why a run stopped that `off` ended
+SLOW = 'stopped too-slow'         # how a run ended in which a batch took longer than `wait`
 CHUNK = 48000  # the monitors take at most 64 KiB a value, and the manager's store says nothing if they refuse one
 
 

@@ -93,7 +93,7 @@ def health(records: List[Record], most_above: int) -> Dict[str, Any]:
             found[code] = {'severity': 'warning', 'count': len(detail), 'summary': summary, 'detail': shown}
 
     warn('MDBAL_STOPPED', 'mdbal stopped before it was done',
-         ['file system {}: {}'.format(it.name, it.stopped) for it in records if it.stopped])
+         ['file system {}: {}'.format(it.name, it.trouble()) for it in records if it.trouble()])
     warn('MDBAL_NOT_HELD', 'directories are not at the rank of their pin',
          ['file system {}: {}'.format(it.name, line) for it in records for line in it.not_held])
     warn('MDBAL_BALANCER_ON', 'mdbal is on, and so is the balancer of Ceph',
@@ -130,7 +130,7 @@ def metrics(records: List[Record]) -> str:
                 rows[name].append('mdbal_{}{{{}{}}} {}'.format(name, label, more, value))
 
         row('on', int(record.state.on))
-        row('stopped', int(bool(record.stopped)))
+        row('stopped', int(bool(record.trouble())))
         row('not_held', len(record.not_held))
         if record.round_time:
             row('round_number', record.rounds)

@@ -10,6 +10,10 @@ class Trouble(Exception):
     """Why something was not done, in words for the operator."""
 
 
+class Refused(Trouble):
+    """Nothing is wrong with mdbal, but it may not do that now."""
+
+
 class Change(NamedTuple):
     """A change of a pin, in the text of a plan."""
     before: int
