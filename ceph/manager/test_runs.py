@@ -102,9 +102,13 @@ class Runs(OnSample):
         self.assertEqual(self.module.health, {})
         self.assertIn("  stopped: stopped it was turned off; up to ", self.module.status("lab")[1])
         self.assertIn('mdbal_stopped{fs="lab"} 0', self.module.metrics()[1])
-        self.do("off")
+        self.do("on")
         self.cluster.at_set = lambda path: None
+        with unittest.mock.patch.dict(self.module.options, {"mask": "nonsense"}):
+            self.do("round")  # that fails, and is one
+        self.assertIn("MDBAL_STOPPED", self.module.health)
         self.assertRegex(self.do("apply", name), r"^apply: set \w+: \d+ of \d+ changes")
+        self.assertEqual(self.module.health, {})
 
     def test_empty_directories_do_not_count(self) -> None:
         self.do("apply", self.planned())

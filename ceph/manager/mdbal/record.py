@@ -61,7 +61,7 @@ class Record:
 
     def trouble(self) -> str:
         """Why it stopped, for a warning: nothing where `off` ended the last run."""
-        return '' if self.state.ended == 'stopped ' + TURNED_OFF else self.stopped
+        return '' if self.stopped.startswith('stopped ' + TURNED_OFF) else self.stopped
 
     def say(self, said: str, is_well: bool) -> None:
         self.said, self.is_well, self.time = said, is_well, int(time.time())
