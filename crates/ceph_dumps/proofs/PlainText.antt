@@ -1,11 +1,13 @@
 -- A text in which no word occurs stays as it is.
-use Rattle.std.proofs.Common.{◌≡◌, ◌+◌, ◌∙◌, ℕ, suc, Bool, true, false, List, [], ◌∷◌, length, drop, take, codes}
-use Rattle.std.proofs.Common.{refl, sym, ap, arith, slice_index, ⊎_elim, length-take}
+use Rattle.std.proofs.Common.{◌≡◌, ◌≢◌, ◌<◌, ◌≤◌, ◌+◌, ◌-◌, ◌∙◌, ℕ, zero, suc, Bool, true, false, List, [], ◌∷◌, length}
+use Rattle.std.proofs.Common.{ap, arith, codes, drop, get_or, length-take, refl, slice_index, subst, sym, take, ⊎_elim}
 use Rattle.std.proofs.lemmas.Bool.{cases_Bool}
-use Rattle.std.proofs.lemmas.List.{get_or-take}
+use Rattle.std.proofs.lemmas.List.{drop-take, get_or-take, take-take}
+use Rattle.std.proofs.lemmas.List.Elements.{All-from_get_or, All-get_or}
 use Rattle.std.proofs.lemmas.Slice.Eq.{bytes_eq-Decides}
+use Rattle.std.specs.Str.{bytes_eq}
 use Rattle.memchr.specs.Find.{OccursAt}
-use Rattle.ceph_dumps.specs.DumpText.{HasNoWord, bare_length, begins_with, word_length, written_over}
+use Rattle.ceph_dumps.specs.DumpText.{HasNoBackslash, HasNoWord, IsWordless, bare_length, begins_with, word_length, written_over}
 use Rattle.ceph_dumps.specs.KeyPath.{place_after}
 use Rattle.ceph_dumps.specs.declared.bare_words.Place.{Place}
 use Rattle.ceph_dumps.specs.declared.bare_words.Place.TheVariants.{Bare, Escaped, Quoted}
@@ -63,3 +65,43 @@ stays [] place none = refl
 stays (byte ∷ text) place none =
     rw (nothing_bare place byte text none)
     (ap (λ (rest : List ℕ). byte ∷ rest) (stays text (place_after place byte) (behind byte text none)))
+
+-- ---- a piece in which no word begins, as none occurs in it and the bytes that a word may reach behind it
+
+behind_some : (text : List ℕ) (n : ℕ) → HasNoWord text → HasNoWord (drop n text)
+behind_some text zero none = none
+behind_some [] (suc n) none = none
+behind_some (byte ∷ text) (suc n) none = behind_some text n (behind byte text none)
+
+nothing : (text : List ℕ) → HasNoWord text → word_length text ≡ 0
+nothing [] none = refl
+nothing (byte ∷ text) none = no_word byte text none
+
+-- a word has at most four bytes
+begins_alike : (text word : List ℕ) (n : ℕ) → length word ≤ n → begins_with (take n text) word ≡ begins_with text word
+begins_alike text word n short = ap (λ (t : List ℕ). bytes_eq t word) (take-take (length word) n text short)
+
+alike : (text : List ℕ) (n : ℕ) → 4 ≤ n → word_length (take n text) ≡ word_length text
+alike text n long =
+    rw (begins_alike text (codes "-inf") n long)
+    (rw (begins_alike text (codes "-nan") n long)
+    (rw (begins_alike text (codes "inf") n (omega (arith, long))) (rw (begins_alike text (codes "nan") n (omega (arith, long))) refl)))
+
+pub wordless_piece : (text : List ℕ) (n : ℕ) → n + 3 ≤ length text → HasNoWord (take (n + 3) text)
+    → HasNoBackslash (take (n + 3) text) → IsWordless text n
+wordless_piece text n fits none plain = record {
+  within = omega (arith, fits);
+  plain = All-from_get_or (λ byte. byte ≢ 92) (take n text) 0 (λ i inside.
+      let near : i < n = omega (arith, inside, length-take n text) in
+      let same : get_or (take (n + 3) text) i 0 ≡ get_or (take n text) i 0 =
+      get_or-take (n + 3) text i 0 (omega (arith, near)) ∙ sym (get_or-take n text i 0 near) in
+      subst (λ (byte : ℕ). byte ≢ 92) same
+      (All-get_or (λ byte. byte ≢ 92) (take (n + 3) text) i 0 (omega (arith, near, fits, length-take (n + 3) text)) plain));
+  none = λ at inside.
+      let size : n + 3 ≡ at + (n + 3 - at) = omega (arith, inside) in
+      let cut : drop at (take (n + 3) text) ≡ take (n + 3 - at) (drop at text) =
+      ap (λ (k : ℕ). drop at (take k text)) size ∙ drop-take at (n + 3 - at) text in
+      sym (alike (drop at text) (n + 3 - at) (omega (arith, inside)))
+      ∙ ap (λ (t : List ℕ). word_length t) (sym cut)
+      ∙ nothing (drop at (take (n + 3) text)) (behind_some (take (n + 3) text) at none);
+}

@@ -1,12 +1,13 @@
 -- Words that are written over, a byte at a time.
 use Rattle.std.proofs.Common.{◌≡◌, ◌≢◌, ◌<◌, ◌+◌, ◌-◌, ◌∙◌, ◌==◌, ℕ, false, true, List, [], ◌∷◌, ◌++◌, length, drop, get_or, set, take, None, Some}
-use Rattle.std.proofs.Common.{◌≤◌, ◌||◌, Bool, Option, append_assoc, arith, ap, codes, get_or-set_same, not, refl, subst, suc, sym, true≢false, zero}
-use Rattle.std.proofs.lemmas.Bool.{eq-eqb, ne_eqb}
+use Rattle.std.proofs.Common.{◌≤◌, Bool, Option, append_assoc, arith, ap, get_or-set_same, length-drop, not, refl, subst, suc, sym, zero}
+use mathlib.Core.Bool.{beq}
+use native.Mathlib.Numerals.{unary_clauses}
+use Rattle.std.proofs.lemmas.Bool.{ne_eqb}
 use Rattle.std.proofs.lemmas.Grind.{drop_more_same}
-use Rattle.std.proofs.lemmas.Slice.Eq.{bytes_eq-Decides}
-use Rattle.std.proofs.lemmas.List.{drop_more, length-set, take-set-le, take_more}
+use Rattle.std.proofs.lemmas.List.{drop-drop, drop_more, length-set, take-set-le, take_more}
 use Rattle.memchr.specs.Find.{FindsNeedle, OccursAt}
-use Rattle.ceph_dumps.specs.DumpText.{IsQuietTo, begins_with, is_quiet_byte, over_byte, word_left, written_over}
+use Rattle.ceph_dumps.specs.DumpText.{IsWordless, over_byte, place_behind, quoting, word_left, word_length, written_over}
 use Rattle.ceph_dumps.specs.KeyPath.{place_after}
 use Rattle.ceph_dumps.specs.declared.bare_words.Place.{Place}
 use Rattle.ceph_dumps.specs.declared.bare_words.Place.TheVariants.{Bare, Escaped, Quoted}
@@ -65,62 +66,59 @@ module _ (old now whole : List ℕ) (at left : ℕ) (place : Place) (inside : at
       ∙ ap (λ (t : List ℕ). t ++ written_over (n - 1) place (drop (at + 1) now)) (sym front)
       ∙ ap (λ (t : List ℕ). take (at + 1) changed ++ written_over (n - 1) place t) rest_on
 
--- ---- a run of quiet bytes
+-- ---- bytes that are passed over at once
 
-four : (a b c d : Bool) → not (a || b || c || d) ≡ true → (a ≡ false) × (b ≡ false) × (c ≡ false) × (d ≡ false)
-four true b c d e = absurd (cc)
-four false true c d e = absurd (cc)
-four false false true d e = absurd (cc)
-four false false false true e = absurd (cc)
-four false false false false e = (refl, refl, refl, refl)
+no_word_left : (place : Place) (text : List ℕ) → word_length text ≡ 0 → word_left 0 place text ≡ 0
+no_word_left Bare text none = none
+no_word_left Quoted text none = refl
+no_word_left Escaped text none = refl
 
-two : (a b : Bool) → not (a || b) ≡ true → (a ≡ false) × (b ≡ false)
-two true b e = absurd (cc)
-two false true e = absurd (cc)
-two false false e = (refl, refl)
-
-not_begun : (byte : ℕ) (text : List ℕ) (first : ℕ) (others : List ℕ) → (byte == first) ≡ false
-    → begins_with (byte ∷ text) (first ∷ others) ≡ false
-not_begun byte text first others other = by_cases (begins_with (byte ∷ text) (first ∷ others)) refl where
-  by_cases : (b : Bool) → begins_with (byte ∷ text) (first ∷ others) ≡ b → b ≡ false
-  by_cases false e = refl
-  by_cases true e =
-      let same : byte ≡ first = ap (λ (t : List ℕ). get_or t 0 0) ((bytes_eq-Decides (take (length (first ∷ others)) (byte ∷ text)) (first ∷ others)).0 e) in
-      absurd (true≢false (sym (eq-eqb byte first same) ∙ other))
-
-quiet_word : (place : Place) (byte : ℕ) (text : List ℕ) → is_quiet_byte place byte ≡ true → word_left 0 place (byte ∷ text) ≡ 0
-quiet_word Bare byte text quiet =
-    let none = four (byte == 34) (byte == 45) (byte == 105) (byte == 110) quiet in
-    rw (not_begun byte text 45 (codes "inf") none.1)
-    (rw (not_begun byte text 45 (codes "nan") none.1)
-    (rw (not_begun byte text 105 (codes "nf") none.2) (rw (not_begun byte text 110 (codes "an") none.3) refl)))
-quiet_word Quoted byte text quiet = refl
-quiet_word Escaped byte text quiet = refl
-
-quiet_place : (place : Place) (byte : ℕ) → is_quiet_byte place byte ≡ true → place_after place byte ≡ place
-quiet_place Bare byte quiet = rw (four (byte == 34) (byte == 45) (byte == 105) (byte == 110) quiet).0 refl
-quiet_place Quoted byte quiet = let none = two (byte == 34) (byte == 92) quiet in rw (none.0, none.1) refl
-quiet_place Escaped byte quiet = absurd (cc)
-
-module _ (old now whole : List ℕ) (place : Place) where
-  run : (k at to : ℕ) → at + k ≡ to → to ≤ length now → ((i : ℕ) → at ≤ i → i < to → is_quiet_byte place (get_or now i 0) ≡ true)
+module _ (old now whole : List ℕ) where
+  run : (k at to : ℕ) (place : Place) → at + k ≡ to → to ≤ length now → ((i : ℕ) → at ≤ i → i < to → word_length (drop i now) ≡ 0)
       → drop at now ≡ drop at old → whole ≡ take at now ++ written_over 0 place (drop at old)
-      → (whole ≡ take to now ++ written_over 0 place (drop to old)) × (drop to now ≡ drop to old)
-  run zero at to is_to fits quiet rest is =
+      → (whole ≡ take to now ++ written_over 0 (place_behind place (take k (drop at now))) (drop to old)) × (drop to now ≡ drop to old)
+  run zero at to place is_to fits none rest is =
       let same : at ≡ to = omega (arith, is_to) in (
         subst (λ (n : ℕ). whole ≡ take n now ++ written_over 0 place (drop n old)) same is,
         subst (λ (n : ℕ). drop n now ≡ drop n old) same rest,
       )
-  run (suc k) at to is_to fits quiet rest is =
+  run (suc k) at to place is_to fits none rest is =
       let inside : at < length now = omega (arith, is_to, fits) in
-      let here = quiet at (omega arith) (omega (arith, is_to)) in
-      let none = ap (λ (t : List ℕ). word_left 0 place t) (drop_more now at 0 inside) ∙ quiet_word place (get_or now at 0) (drop (at + 1) now) here in
-      run k (at + 1) to (omega (arith, is_to)) fits (λ i from before. quiet i (omega (arith, from)) before)
-      (rest_on old now whole at 0 place inside rest is)
-      (keep_turn old now whole at 0 place inside rest is none
-      ∙ ap (λ (p : Place). take (at + 1) now ++ written_over 0 p (drop (at + 1) old)) (quiet_place place (get_or now at 0) here))
+      let opened : drop at now ≡ get_or now at 0 ∷ drop (at + 1) now = drop_more now at 0 inside in
+      let here : word_left 0 place (drop at now) ≡ 0 = no_word_left place (drop at now) (none at (omega arith) (omega (arith, is_to))) in
+      let later = run k (at + 1) to (place_after place (get_or now at 0)) (omega (arith, is_to)) fits
+      (λ i from before. none i (omega (arith, from)) before)
+      (rest_on old now whole at 0 place inside rest is) (keep_turn old now whole at 0 place inside rest is here) in
+      (rw opened later.0, later.1)
 
-  pub run_to : (at to : ℕ) → IsQuietTo now place at to → drop at now ≡ drop at old
+  pub pass_over : (at count : ℕ) (place : Place) → at ≤ length now → IsWordless (drop at now) count → drop at now ≡ drop at old
       → whole ≡ take at now ++ written_over 0 place (drop at old)
-      → (whole ≡ take to now ++ written_over 0 place (drop to old)) × (drop to now ≡ drop to old)
-  run_to at to quiet rest is = run (to - at) at to (omega (arith, quiet.behind)) quiet.within quiet.quiet rest is
+      → (whole ≡ take (at + count) now ++ written_over 0 (place_behind place (take count (drop at now))) (drop (at + count) old))
+      × (drop (at + count) now ≡ drop (at + count) old)
+  pass_over at count place inside wordless rest is =
+      let fits : at + count ≤ length now = omega (arith, inside, wordless.within, length-drop at now) in
+      run count at (at + count) place refl fits
+      (λ i from before.
+      let there : at + (i - at) ≡ i = omega (arith, from) in
+      subst (λ (t : List ℕ). word_length t ≡ 0) (drop-drop (i - at) at now ∙ ap (λ (n : ℕ). drop n now) there)
+      (wordless.none (i - at) (omega (arith, from, before))))
+      rest is
+
+-- ---- where the byte behind some bytes is
+
+pub behind_more : (place : Place) (text : List ℕ) (i : ℕ) → i < length text
+    → place_behind place (take (i + 1) text) ≡ place_after (place_behind place (take i text)) (get_or text i 0)
+behind_more place [] i inside = absurd (omega (arith, inside))
+behind_more place (first ∷ text) zero inside = refl
+behind_more place (first ∷ text) (suc i) inside =
+    simp unary_clauses (simp unary_clauses at (behind_more (place_after place first) text i (omega (arith, inside))))
+
+pub turned : (is_quoted : Bool) (b : ℕ) → b ≢ 92 → place_after (quoting is_quoted) b ≡ quoting (not (beq is_quoted (b == 34)))
+turned false b other = by_cases (b == 34) refl where
+  by_cases : (e : Bool) → (b == 34) ≡ e → place_after Bare b ≡ quoting (not (beq false (b == 34)))
+  by_cases true is = rw is refl
+  by_cases false is = rw is refl
+turned true b other = by_cases (b == 34) refl where
+  by_cases : (e : Bool) → (b == 34) ≡ e → place_after Quoted b ≡ quoting (not (beq true (b == 34)))
+  by_cases true is = rw is refl
+  by_cases false is = rw (is, ne_eqb b 92 other) refl

@@ -1,6 +1,6 @@
 -- The text that the bytes of a dump are read as.
-use Rattle.std.specs.Prelude.{◌≡◌, ◌==◌, ◌-◌, ◌<◌, ◌≤◌, ◌||◌, Bool, false, true, List, []}
-use Rattle.std.specs.Prelude.{◌∷◌, ℕ, Option, codes, length, not, option_and_then, slice_index, take, if◌then◌else◌}
+use Rattle.std.specs.Prelude.{◌≡◌, ◌≢◌, ◌==◌, ◌-◌, ◌<◌, ◌≤◌, All, Bool, List, [], ◌∷◌, ℕ, Option}
+use Rattle.std.specs.Prelude.{codes, drop, length, option_and_then, take, if◌then◌else◌}
 use Rattle.std.specs.Str.{bytes_eq}
 use Rattle.json.specs.Json.{Json, document}
 use Rattle.memchr.specs.Find.{OccursAt}
@@ -45,17 +45,23 @@ written_over left place (byte ∷ text) =
     else over_byte (word_left left place (byte ∷ text) - 1)
     ∷ written_over (word_left left place (byte ∷ text) - 1) place text
 
--- whether no such word begins with a byte, and the byte after it is at the same place
-abbrev pub is_quiet_byte : Place → ℕ → Bool
-is_quiet_byte Bare byte = not (byte == 34 || byte == 45 || byte == 105 || byte == 110)
-is_quiet_byte Quoted byte = not (byte == 34 || byte == 92)
-is_quiet_byte Escaped byte = false
+-- where the byte behind these is
+abbrev pub place_behind : Place → List ℕ → Place
+place_behind place [] = place
+place_behind place (byte ∷ text) = place_behind (place_after place byte) text
 
--- all bytes from one on to before another are
-pub record IsQuietTo (text : List ℕ) (place : Place) (from to : ℕ) : Type 0 where
-  pub behind : from ≤ to
-  pub within : to ≤ length text
-  pub quiet : (at : ℕ) → from ≤ at → at < to → is_quiet_byte place (slice_index text at) ≡ true
+abbrev pub quoting : Bool → Place
+quoting is_quoted = if is_quoted then Quoted else Bare
+
+-- none of the bytes is a backslash
+abbrev pub HasNoBackslash : List ℕ → Type 0
+HasNoBackslash text = All (λ byte. byte ≢ 92) text
+
+-- none of so many first bytes is a backslash, and no such word begins in them
+pub record IsWordless (text : List ℕ) (count : ℕ) : Type 0 where
+  pub within : count ≤ length text
+  pub plain : HasNoBackslash (take count text)
+  pub none : (at : ℕ) → at < count → word_length (drop at text) ≡ 0
 
 -- each byte from 0x80 as a character of its own, and a number in place of each bare word
 abbrev pub dump_text : List ℕ → List ℕ

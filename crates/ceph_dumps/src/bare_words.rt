@@ -1,9 +1,10 @@
 //! Writes blanks and a zero over bare `-inf`, `inf` and `nan`, which Ceph prints where JSON has no number.
-ghost use Rattle.std.specs.Prelude.{◌≡◌, ◌≤◌, false, length};
-ghost use Rattle.ceph_dumps.specs.DumpText.{HasNoWord, IsQuietTo, bare_length, is_quiet_byte, over_byte};
-ghost use Rattle.ceph_dumps.specs.DumpText.{word_left, word_length, written_over};
+ghost use Rattle.std.specs.Prelude.{◌≡◌, false, take};
+ghost use Rattle.ceph_dumps.specs.DumpText.{HasNoBackslash, HasNoWord, IsWordless, bare_length, over_byte};
+ghost use Rattle.ceph_dumps.specs.DumpText.{place_behind, quoting, word_left, word_length, written_over};
 ghost use Rattle.ceph_dumps.specs.declared.bare_words.Place.TheVariants.{Bare};
 
+use memchr::memchr;
 use memchr::memmem::find;
 
 /// Where a byte of JSON is.
@@ -87,27 +88,61 @@ pub(crate) fn may_have_words(text: &[u8]) -> bool
     }
 }
 
-/// Whether no word begins with a byte at this place, and the next byte is at the same place.
-fn is_quiet_byte(place: Place, byte: u8) -> bool
-    ensures { result ≡ is_quiet_byte place byte }
+/// How many bytes are passed over at once, where nothing is to be written over in them.
+const PIECE: usize = 4096;
+
+/// How far a word that begins in a piece may reach behind it.
+const REACH: usize = 3;
+
+/// How many of the first bytes can be passed over at once: those of a piece, or none.
+fn wordless_length(text: &[u8]) -> usize
+    ensures { IsWordless text.now result }
 {
-    match place {
-        Place::Bare => !matches!(byte, b'"' | b'-' | b'i' | b'n'),
-        Place::Quoted => !matches!(byte, b'"' | b'\\'),
-        Place::Escaped => false,
+    if text.len() < PIECE + REACH {
+        return 0;
+    }
+    let ahead = &text[..PIECE + REACH];
+    if may_have_words(ahead) || memchr(b'\\', ahead).is_some() {
+        return 0;
+    }
+    PIECE
+}
+
+/// Whether the byte behind these is in a string. The whole is looked at, which a processor does for many bytes at once.
+fn is_quoted_behind(is_first_quoted: bool, text: &[u8]) -> bool
+    ensures { HasNoBackslash text.now → place_behind (quoting is_first_quoted) text.now ≡ quoting result }
+{
+    let mut is_quoted = is_first_quoted;
+    for byte in text {
+        is_quoted = is_quoted != (*byte == b'"');
+    }
+    is_quoted
+}
+
+/// How many bytes can be passed over at once, and where the byte behind them is, where the first one is in a string or
+/// not.
+fn pass_from(is_quoted: bool, text: &[u8]) -> (usize, Place)
+    ensures wordless { IsWordless text.now result.0 }
+    ensures place { result.1 ≡ place_behind (quoting is_quoted) (take result.0 text.now) }
+{
+    let count = wordless_length(text);
+    if is_quoted_behind(is_quoted, &text[..count]) {
+        (count, Place::Quoted)
+    } else {
+        (count, Place::Bare)
     }
 }
 
-/// Where the quiet bytes from here on end.
-fn quiet_end(text: &[u8], place: Place, from: usize) -> usize
-    requires { from ≤ length text.now }
-    ensures { IsQuietTo text.now place from result }
+/// The same, where the first one is at this place.
+fn pass_over(place: Place, text: &[u8]) -> (usize, Place)
+    ensures wordless { IsWordless text.now result.0 }
+    ensures place { result.1 ≡ place_behind place (take result.0 text.now) }
 {
-    let mut at = from;
-    while at < text.len() && is_quiet_byte(place, text[at]) {
-        at += 1;
+    match place {
+        Place::Bare => pass_from(false, text),
+        Place::Quoted => pass_from(true, text),
+        Place::Escaped => (0, place),
     }
-    at
 }
 
 /// Writes over each bare word outside of strings. No byte is moved, so lines and columns stay.
@@ -115,17 +150,24 @@ pub fn write_over_bare_words(text: &mut [u8])
     ensures { text.new ≡ written_over 0 Bare text.old }
 {
     let (mut place, mut left) = (Place::Bare, 0);
-    let mut at = quiet_end(text, place, 0);
+    let (mut at, mut looked) = (0, 0);
     while at < text.len() {
+        if left == 0 && looked <= at {
+            let (count, behind) = pass_over(place, &text[at..]);
+            looked = at.saturating_add(PIECE);
+            place = behind;
+            at += count;
+            continue;
+        }
         let coming = word_left(left, place, &text[at..]);
         if coming == 0 {
             place = place.after(text[at]);
             left = 0;
-            at = quiet_end(text, place, at + 1);
-        } else {
-            left = coming - 1;
-            text[at] = over_byte(left);
             at += 1;
+            continue;
         }
+        left = coming - 1;
+        text[at] = over_byte(left);
+        at += 1;
     }
 }

@@ -1,4 +1,4 @@
-use Rattle.std.proofs.Common.{◌≡◌, ◌≤◌, ◌-◌, ◌++◌, drop, length, take}
+use Rattle.std.proofs.Common.{◌≡◌, ◌≤◌, ◌-◌, ◌+◌, ◌*◌, ◌++◌, drop, length, nat_le, take, if◌then◌else◌}
 use Rattle.ceph_dumps.specs.DumpText.{written_over}
 use Rattle.ceph_dumps.specs.declared.bare_words.Place.TheVariants.{Bare}
 use Rattle.ceph_dumps.proofs.bare_words.write_over_bare_words.Given as goal
@@ -13,4 +13,4 @@ invariant-loop-at l = record {
 }
 
 abbrev pub decreases-loop-at : goal.decreases-loop-at
-decreases-loop-at l = length l.text - l.at
+decreases-loop-at l = 2 * (length l.text - l.at) + (if nat_le l.looked l.at then 1 else 0)
