@@ -4,10 +4,8 @@ use Rattle.std.specs.Prelude.{if◌then◌else◌}
 use Rattle.std.proofs.lemmas.Bool.Decides.{nat_tests}
 use Rattle.mds_types.proofs.SumsLemmas.{sum_below-fewer, sum_below_more}
 use Rattle.ceph_snapshot.specs.Holding.{most_heat}
-use Rattle.ceph_snapshot.specs.declared.snapshot_error.SnapshotError.{SnapshotError}
-use Rattle.ceph_snapshot.specs.declared.snapshot_error.SnapshotError.TheVariants.{Memory, TooMany}
 use Rattle.ceph_folding.specs.Folding.{brought}
-use Rattle.ceph_folding.specs.TooMany.{IsGrowthError, IsPastCount}
+use Rattle.ceph_folding.specs.TooMany.{IsPastCount}
 use Rattle.ceph_folding.proofs.Folds.{brought-alike}
 
 -- one more makes it so
@@ -31,9 +29,3 @@ past_alike one two home m n is alike past =
       inside = here.inside;
       much = omega (arith, here.much, brought-alike one two home n here.there alike);
     }
-
--- another cause
-pub growth_for : (Cause Other : Type 0) (error : SnapshotError) → (Cause → Other) → IsGrowthError Cause error → IsGrowthError Other error
-growth_for Cause Other Memory so is = tt
-growth_for Cause Other TooMany so is = so is
-growth_for Cause Other other so is = absurd is

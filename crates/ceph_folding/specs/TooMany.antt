@@ -1,19 +1,11 @@
 -- Why directories can't be folded.
-use Rattle.std.specs.Prelude.{◌≡◌, ◌<◌, ◌^◌, ◌⊎◌, ⊤, ℕ, Bool, List, Vec, false, length, slice_index, true}
+use Rattle.std.specs.Prelude.{◌≡◌, ◌<◌, ◌^◌, ◌⊎◌, ℕ, Bool, List, Vec, false, length, slice_index, true}
 use Rattle.std.specs.Global.{Global}
 use Rattle.std.specs.List.{IsAmong}
 use Rattle.mds_types.specs.Sums.{count_below}
 use Rattle.ceph_snapshot.specs.declared.directory.Directory.{Directory}
-use Rattle.ceph_snapshot.specs.declared.snapshot_error.SnapshotError.{SnapshotError}
-use Rattle.ceph_snapshot.specs.declared.snapshot_error.SnapshotError.TheVariants.{Memory, TooMany}
 use Rattle.ceph_snapshot.specs.Holding.{heat_at, inodes_at, most_heat, writes_at}
 use Rattle.ceph_folding.specs.Folding.{AreGone, HasToStay, IsHome, IsPlain, brought}
-
--- memory was refused, or there are too many for this cause
-abbrev pub IsGrowthError : Type 0 → SnapshotError → Type 0
-IsGrowthError Cause Memory = ⊤
-IsGrowthError Cause TooMany = Cause
-IsGrowthError Cause other = ⊥
 
 -- of what each of n has, more comes together at one than 64 bits can count
 pub record IsPastCount (amount home : ℕ → ℕ) (n : ℕ) : Type 0 where

@@ -2,7 +2,8 @@
 ghost use Rattle.std.specs.Prelude.{◌≡◌, ◌<◌, ℕ, length, slice_index, IfErr, IfOk};
 ghost use Rattle.ceph_folding.specs.Amounts.{amount_at, amount_of};
 ghost use Rattle.ceph_folding.specs.Folding.{brought};
-ghost use Rattle.ceph_folding.specs.TooMany.{IsGrowthError, IsPastCount};
+ghost use Rattle.ceph_folding.specs.TooMany.{IsPastCount};
+ghost use Rattle.ceph_snapshot.specs.Growth.{IsGrowthError};
 
 use ceph_snapshot::{Directory, SnapshotError};
 use std::alloc::{AllocError, Global};

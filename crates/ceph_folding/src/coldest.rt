@@ -5,9 +5,10 @@ ghost use Rattle.std.specs.Prelude.{◌≡◌, ◌<◌, ◌≤◌, ◌↔◌, �
 ghost use Rattle.std.specs.Prelude.{length, slice_index, slice_set, IfErr, IfOk, IfSome, None};
 ghost use Rattle.mds_types.specs.Sums.{count_below};
 ghost use Rattle.ceph_folding.specs.Folding.{AreGone, HasToStay, IsHeatBelow, IsPlain, kept_below};
+ghost use Rattle.ceph_snapshot.specs.Growth.{IsGrowthError};
 ghost use Rattle.ceph_snapshot.specs.Holding.{AreParentsFirst, is_marked, parent_at};
 ghost use Rattle.ceph_folding.specs.Keys.{goes, is_at_most, is_below, key_at, passes};
-ghost use Rattle.ceph_folding.specs.TooMany.{HaveToStay, IsGrowthError};
+ghost use Rattle.ceph_folding.specs.TooMany.{HaveToStay};
 
 use ceph_snapshot::{Directory, SnapshotError, own_heats};
 use std::alloc::{AllocError, Global};

@@ -7,7 +7,8 @@ ghost use Rattle.ceph_folding.specs.Folding.{AreHoursFolded, AreHoursLeft, AreHo
 ghost use Rattle.ceph_folding.specs.Folding.{IsFolded, IsHome, IsPlain, StillKept};
 ghost use Rattle.ceph_folding.specs.Folding.{all_heat, all_inodes, all_writes};
 ghost use Rattle.ceph_folding.specs.Folding.{kept_below, put_together, with_amounts};
-ghost use Rattle.ceph_folding.specs.TooMany.{AreTooMany, AreTooManyToUnits, IsGrowthError, IsTooMuch};
+ghost use Rattle.ceph_folding.specs.TooMany.{AreTooMany, AreTooManyToUnits, IsTooMuch};
+ghost use Rattle.ceph_snapshot.specs.Growth.{IsGrowthError};
 ghost use Rattle.ceph_snapshot.specs.Holding.{AreParentsFirst, is_marked, parent_at};
 ghost use Rattle.ceph_snapshot.specs.Policies.{KeepUnpinnable, StillKeepUnpinnable};
 

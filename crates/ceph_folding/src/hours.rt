@@ -3,7 +3,8 @@ ghost use Rattle.std.specs.Prelude.{◌≡◌, ◌<◌, ℕ, Vec, false, length,
 ghost use Rattle.std.specs.Global.{Global};
 ghost use Rattle.std.specs.List.{IsAmong};
 ghost use Rattle.ceph_folding.specs.Folding.{AreHeatsLeft, AreHoursLeft, AreHoursOf, kept_below};
-ghost use Rattle.ceph_folding.specs.TooMany.{IsGrowthError, IsPastCount};
+ghost use Rattle.ceph_folding.specs.TooMany.{IsPastCount};
+ghost use Rattle.ceph_snapshot.specs.Growth.{IsGrowthError};
 ghost use Rattle.ceph_snapshot.specs.Holding.{is_marked};
 
 use crate::amounts::at_homes;

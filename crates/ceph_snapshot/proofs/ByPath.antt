@@ -28,7 +28,7 @@ use Rattle.ceph_snapshot.specs.Heard.{IsNotedIn, heard_at, is_borne_out, is_spre
 use Rattle.ceph_snapshot.specs.Holding.{most_heat}
 use Rattle.ceph_snapshot.specs.Names.{path_number}
 use Rattle.ceph_snapshot.specs.Policies.{dir_path_at}
-use Rattle.ceph_snapshot.specs.Sightings.{Account, HaveOwnPaths, LieAt, PathHeat, Position, account_at}
+use Rattle.ceph_snapshot.specs.Sightings.{Account, HaveOwnPaths, IsNumberOf, LieAt, PathHeat, Position, account_at}
 use Rattle.ceph_snapshot.specs.Sightings.{account_of, position_at, position_of, torn_heat, with_path}
 use Rattle.ceph_snapshot.proofs.Adding.{capped-add}
 use Rattle.ceph_snapshot.proofs.Sighted.{same_path, seen_by_place}
@@ -94,6 +94,17 @@ only_node nodes i j path own at other =
 
 path_read : (o : Option Node) → (n : Node) → o ≡ Some n → option_map_or (λ (one : Node). one.directory.path.items) o [] ≡ n.directory.path.items
 path_read o n is = ap (λ (one : Option Node). option_map_or (λ (m : Node). m.directory.path.items) one []) is
+
+-- what is so of the path of each node
+pub all_paths : (nodes : List Node) (ds : List Directory) (Is : List ℕ → Type 0) → HavePathsOf nodes ds
+    → ((path : List ℕ) (i : ℕ) → IsNumberOf nodes path i → Is path) → All (λ (d : Directory). Is d.path.items) ds
+all_paths nodes ds Is paths so k d l =
+    let path : List ℕ = dir_path (get_or ds k d) in
+    let found = some_with node_path (slice_get nodes k) path (sym (paths k) ∙ ap (option_map dir_path) (slice_get-get_or ds k d l)) in
+    so path k (record {
+      inside = slice_get_within nodes k found.0 found.1;
+      there = path_read (slice_get nodes k) found.0 found.1 ∙ found.2;
+    })
 
 -- what the directory with this number is, any with its path is
 at_path : (nodes : List Node) (ds : List Directory) (i : ℕ) (is : Directory → Bool) → HaveOwnPaths nodes → HavePathsOf nodes ds → i < length nodes

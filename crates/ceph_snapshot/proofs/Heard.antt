@@ -19,6 +19,7 @@ use Rattle.ceph_snapshot.specs.Authority.{StillClaimed, is_user_path, node_path_
 use Rattle.ceph_snapshot.specs.Facts.{AreAsTold, Fact, KeepNumbers, Root, StillTold, Value, roots_in}
 use Rattle.ceph_snapshot.specs.Heard.{AreClaimsIn, AreHeardAt, AreNumbersOf, ClaimsByFact, ClaimsFragment, HasTold, HeardRank, IsNotedIn}
 use Rattle.ceph_snapshot.specs.Heard.{LiesInTop, StillHasTold, heard_at, heard_in, heard_in_fact, top_of_path, tops_in, tops_in_fact}
+use Rattle.ceph_snapshot.specs.Named.{ArePathsNamed}
 use Rattle.ceph_snapshot.specs.Names.{path_number}
 use Rattle.ceph_snapshot.specs.Sightings.{IsNumberOf}
 
@@ -78,19 +79,21 @@ number_push nodes numbers i paths path at was = record {
 
 -- nothing is said yet
 pub told_nothing : (g : Gathering) → AreAsTold g.tree.nodes [] → g.hearsay.items ≡ [] → g.tops.items ≡ []
-    → ((fragment : List ℕ) → path_number g.fragments fragment ≡ None) → HasTold g []
-told_nothing g told hearsay tops none = record {
+    → ((fragment : List ℕ) → path_number g.fragments fragment ≡ None) → ArePathsNamed g.tree.seen [] g.tree.nodes → HasTold g []
+told_nothing g told hearsay tops none named = record {
   told = told;
   heard = subst (λ (hs : List Hearsay). AreHeardAt g.tree.nodes hs []) (sym hearsay) (record { inside = λ k d l. absurd (omega (arith, l)); are = refl });
   tops = subst (λ (is : List ℕ). AreNumbersOf g.tree.nodes is []) (sym tops) (record { inside = λ k d l. absurd (omega (arith, l)); are = refl });
   claims = λ k d l. absurd (omega (arith, l));
   only = λ rank fragment is. absurd (none-some rank (sym (none fragment) ∙ is));
+  named = named;
 }
 
 -- more directories are named
 pub still_has : (g h : Gathering) → StillTold g.tree.nodes h.tree.nodes → h.hearsay.items ≡ g.hearsay.items → h.tops.items ≡ g.tops.items
-    → h.fragments ≡ g.fragments → StillHasTold g h
-still_has g h still hearsay tops claims facts was = record {
+    → h.fragments ≡ g.fragments
+    → ((facts : List Fact) → ArePathsNamed g.tree.seen facts g.tree.nodes → ArePathsNamed h.tree.seen facts h.tree.nodes) → StillHasTold g h
+still_has g h still hearsay tops claims named facts was = record {
   told = still.told facts was.told;
   heard = subst (λ (hs : List Hearsay). AreHeardAt h.tree.nodes hs (heard_in facts)) (sym hearsay)
       (heard_kept g.tree.nodes h.tree.nodes g.hearsay.items (heard_in facts) still.numbers was.heard);
@@ -98,6 +101,7 @@ still_has g h still hearsay tops claims facts was = record {
       (numbers_kept_of g.tree.nodes h.tree.nodes g.tops.items (tops_in facts) still.numbers was.tops);
   claims = subst (λ (names : Names). All (IsNotedIn names) facts) (sym claims) was.claims;
   only = subst (λ (names : Names). AreClaimsIn names facts) (sym claims) was.only;
+  named = named facts was.named;
 }
 
 pub claims_kept : (old new : Names) (facts : List Fact) → StillClaimed old new → All (IsNotedIn old) facts → All (IsNotedIn new) facts

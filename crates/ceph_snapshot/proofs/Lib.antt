@@ -3,10 +3,12 @@ pub mod Beaten
 pub mod ByPath
 pub mod Doubtful
 pub mod Earlier
+pub mod Growth
 pub mod Heard
 pub mod Holders
 pub mod Listed
 pub mod Lookups
+pub mod Named
 pub mod Numbers
 pub mod Owners
 pub mod Parents

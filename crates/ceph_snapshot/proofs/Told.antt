@@ -284,6 +284,14 @@ set_numbers nodes at old new inside read same p i h = record {
   there = path_same nodes (set nodes at new) i (set-same (λ (n : Node). account_of n.directory) nodes at old new inside read same i) ∙ h.there;
 }
 
+-- and nothing else is there
+set_only : (nodes : List Node) (at : ℕ) (old new : Node) → at < length nodes → slice_get nodes at ≡ Some old
+    → account_of new.directory ≡ account_of old.directory → KeepNumbers (set nodes at new) nodes
+set_only nodes at old new inside read same p i h = record {
+  inside = omega (arith, h.inside, length-set nodes at new);
+  there = sym (path_same nodes (set nodes at new) i (set-same (λ (n : Node). account_of n.directory) nodes at old new inside read same i)) ∙ h.there;
+}
+
 -- one more fact, of the directory with this number
 told_more : (names : Names) (nodes : List Node) (at : ℕ) (old new : Node) (ss : List Sighting) (f : Fact) → slice_get nodes at ≡ Some old
     → account_of new.directory ≡ account_of old.directory → IsNumberOf nodes (fact_path f) at
@@ -325,6 +333,7 @@ pub record IsAdded (names : Names) (nodes : List Node) (ss : List Sighting) (f :
   pub seen : map (with_path nodes) ss ≡ before.seen
   pub told : (facts : List Fact) → AreAsTold before.nodes facts → AreAsTold nodes (facts ++ f ∷ [])
   pub numbers : KeepNumbers before.nodes nodes
+  pub only : KeepNumbers nodes before.nodes
 
 pub added : (names : Names) (nodes : List Node) (at : ℕ) (old new : Node) (ss : List Sighting) (f : Fact) (v : TreeData)
     → record { nodes = nodes; seen = map (with_path nodes) ss } ≡ v → IsNumberOf v.nodes (fact_path f) at
@@ -341,6 +350,7 @@ added names nodes at old new ss f v view number here same parent more was =
       told = λ facts before. told_more names nodes at old new ss f read same there more was facts
           (subst (λ (w : TreeData). AreAsTold w.nodes facts) (sym view) before);
       numbers = subst (λ (w : TreeData). KeepNumbers w.nodes (set nodes at new)) view (set_numbers nodes at old new there.inside read same);
+      only = subst (λ (w : TreeData). KeepNumbers (set nodes at new) w.nodes) view (set_only nodes at old new there.inside read same);
     }
 
 -- one more of what a list says of the directories of users

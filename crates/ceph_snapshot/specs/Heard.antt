@@ -1,6 +1,6 @@
 -- What follows from the dumps, beside what is told of each directory: whom ranks take for the authority of what they
 -- don't have, where Ceph's own pins may be, which rank claims which fragment, and the heat of what is spread.
-use Rattle.std.specs.Prelude.{◌≡◌, ◌≢◌, ◌⊎◌, ◌==◌, ◌&&◌, ◌||◌, ◌/◌, ◌<◌, ◌++◌, ℕ, ℤ, pos, negsuc, All, Bool, true, not}
+use Rattle.std.specs.Prelude.{◌≡◌, ◌≢◌, ◌==◌, ◌&&◌, ◌||◌, ◌/◌, ◌<◌, ℕ, ℤ, pos, negsuc, All, Bool, true, not}
 use Rattle.std.specs.Prelude.{List, [], ◌∷◌, Some, length, map, min, slice_get, slice_index, string_bytes, sum_by}
 use Rattle.std.specs.Prelude.{if◌then◌else◌}
 use Rattle.std.specs.List.{IsAmong, flat_map, list_any, take_while}
@@ -17,7 +17,8 @@ use Rattle.ceph_snapshot.specs.Authority.{PathText, fragment_of, node_path_at}
 use Rattle.ceph_snapshot.specs.Facts.{AreAsTold, Fact, Root, Value}
 use Rattle.ceph_snapshot.specs.Gathered.{listed_at, listed_of, with_unknown}
 use Rattle.ceph_snapshot.specs.Holding.{most_heat}
-use Rattle.ceph_snapshot.specs.Names.{IsPathBelow, path_number}
+use Rattle.ceph_snapshot.specs.Names.{IsAtOrAbove, IsPathBelow, path_number}
+use Rattle.ceph_snapshot.specs.Named.{ArePathsNamed}
 use Rattle.ceph_snapshot.specs.Policies.{dir_path_at}
 use Rattle.ceph_snapshot.specs.Shown.{shown_path}
 use Rattle.ceph_snapshot.specs.Sightings.{PathHeat}
@@ -52,7 +53,7 @@ top_of_path (slash ∷ names) = slash ∷ take_while (λ c. not (c == 47)) names
 -- so a path but the root's is a directory in the root, or lies in one
 pub record LiesInTop (path top : List ℕ) : Type 0 where
   pub in_root : IsPathBelow [] top
-  pub in_top : (path ≡ top) ⊎ ((names : List ℕ) × (path ≡ top ++ 47 ∷ names))
+  pub in_top : IsAtOrAbove top path
 
 -- Ceph's own pins are at or below it where a root is that Ceph itself spreads
 abbrev pub tops_in_root : SubtreeRoot → List (List ℕ)
@@ -111,13 +112,14 @@ pub record IsToldTwice (facts : List Fact) (root : SubtreeRoot) (rank : ℕ) (pa
   pub second_of : second ≡ rank
   pub path_of : string_bytes path ≡ shown_path root.path.items
 
--- what was gathered is what these facts say
+-- what was gathered is what these facts say, and the directories are those that are named
 pub record HasTold (g : Gathering) (facts : List Fact) : Type 0 where
   pub told : AreAsTold g.tree.nodes facts
   pub heard : AreHeardAt g.tree.nodes g.hearsay.items (heard_in facts)
   pub tops : AreNumbersOf g.tree.nodes g.tops.items (tops_in facts)
   pub claims : All (IsNotedIn g.fragments) facts
   pub only : AreClaimsIn g.fragments facts
+  pub named : ArePathsNamed g.tree.seen facts g.tree.nodes
 
 abbrev pub StillHasTold : Gathering → Gathering → Type 0
 StillHasTold old new = (facts : List Fact) → HasTold old facts → HasTold new facts

@@ -2,10 +2,12 @@ pub mod Authority
 pub mod Doubts
 pub mod Facts
 pub mod Gathered
+pub mod Growth
 pub mod Heard
 pub mod Holding
 pub mod Hours
 pub mod Mounts
+pub mod Named
 pub mod Names
 pub mod Places
 pub mod Policies

@@ -1,14 +1,16 @@
 //! Gathers what the dumps of all ranks say. A directory has its heat from the rank that has authority: the nearest
 //! subtree root at or above it decides. Where that root is in fragments at several ranks, there is no such rank: the
 //! directory, and what is below it with no root of its own, is spread.
-ghost use Rattle.std.specs.Prelude.{◌≡◌, ◌⊎◌, ◌++◌, ◌∷◌, [], ℕ, List, Some, false, true, IfOk, IsErrOf, OnOk};
+ghost use Rattle.std.specs.Prelude.{◌≡◌, ◌⊎◌, ◌++◌, ◌∷◌, [], ℕ, List, Some, false, true, IfErr, IfOk, IsErrOf, OnOk};
 ghost use Rattle.std.specs.List.{IsAmong};
 ghost use Rattle.ceph_snapshot.specs.Authority.{AreClaimed, IsClaim, IsClaimedTwice, StillClaimed};
 ghost use Rattle.ceph_snapshot.specs.Authority.{PathText, fragment_of, is_user_path};
 ghost use Rattle.ceph_snapshot.specs.Facts.{Fact, Root, StillTold, roots_in, values_in};
+ghost use Rattle.ceph_snapshot.specs.Growth.{IsClaimOrGrowth, IsGrowthError};
 ghost use Rattle.ceph_snapshot.specs.Heard.{AreHeardAt, AreNumbersOf, ClaimsByFact, HasTold, HeardRank, IsToldTwice};
 ghost use Rattle.ceph_snapshot.specs.Heard.{StillHasTold};
 ghost use Rattle.ceph_snapshot.specs.Heard.{LiesInTop, heard_in_root, top_of_path, tops_in_root};
+ghost use Rattle.ceph_snapshot.specs.Named.{AreOldOr, AreTooManyNamed, AreTooManyPaths, IsOldOr, IsUpFrom};
 ghost use Rattle.ceph_snapshot.specs.Names.{path_number};
 ghost use Rattle.ceph_snapshot.specs.Sightings.{IsNumberOf, seen_in};
 
@@ -50,6 +52,7 @@ impl Gathering {
         ensures told { IfOk result (λ gathering. HasTold gathering []) }
         ensures listed { IfOk result (λ gathering. gathering.is_listed ≡ false) }
         ensures numbered { IfOk result (λ gathering. gathering.is_numbered ≡ false) }
+        ensures failed { IfErr result (λ error. error ≡ SnapshotError.Memory) }
     {
         Ok(Gathering {
             alloc,
@@ -66,6 +69,8 @@ impl Gathering {
     pub fn add_loads(&mut self, rank: Rank, loads: &[FragmentHeat]) -> Result<(), SnapshotError>
         ensures seen { OnOk result (self.new.tree.seen ≡ self.old.tree.seen ++ seen_in rank loads.now) }
         ensures told { OnOk result (StillHasTold self.old self.new) }
+        ensures many { (facts : List Fact) → HasTold self.old facts → IfErr result (IsGrowthError
+            (AreTooManyNamed (self.old.tree.seen ++ seen_in rank loads.now) facts)) }
         ensures listed { self.new.is_listed ≡ self.old.is_listed }
         ensures numbered { self.new.is_numbered ≡ self.old.is_numbered }
     {
@@ -84,6 +89,7 @@ impl Gathering {
         ensures numbered { self.new.is_numbered ≡ self.old.is_numbered }
         ensures twice { (path : PathText) (one two : ℕ) → IsErrOf result (SnapshotError.TwoClaims path one two)
             → IsClaimedTwice self.old.fragments root.now rank path one two }
+        ensures failed { IfErr result (IsClaimOrGrowth ⊥) }
         ensures claimed { OnOk result ((fragment : List ℕ) → root.now.is_here ≡ true
             → fragment_of root.now ≡ Some fragment → path_number self.new.fragments fragment ≡ Some rank) }
         ensures kept { OnOk result (StillClaimed self.old.fragments self.new.fragments) }
@@ -124,6 +130,7 @@ impl Gathering {
         ensures tops { self.new.tops ≡ self.old.tops }
         ensures listed { self.new.is_listed ≡ self.old.is_listed }
         ensures numbered { self.new.is_numbered ≡ self.old.is_numbered }
+        ensures failed { IfErr result (λ error. error ≡ SnapshotError.Memory) }
         ensures twice { (path : PathText) (one two : ℕ) → IsErrOf result (SnapshotError.TwoClaims path one two) → ⊥ }
     {
         if root.is_here {
@@ -147,6 +154,9 @@ impl Gathering {
         ensures hearsay { self.new.hearsay ≡ self.old.hearsay }
         ensures seen { self.new.tree.seen ≡ self.old.tree.seen }
         ensures told { OnOk result (StillTold self.old.tree.nodes self.new.tree.nodes) }
+        ensures only { OnOk result (AreOldOr self.old.tree.nodes (IsUpFrom root.now.path.items) self.new.tree.nodes) }
+        ensures many { IfErr result (IsGrowthError
+            (AreTooManyPaths (IsOldOr self.old.tree.nodes (IsUpFrom root.now.path.items)))) }
         ensures tops { (tops : List (List ℕ)) → AreNumbersOf self.old.tree.nodes self.old.tops.items tops
             → OnOk result (AreNumbersOf self.new.tree.nodes self.new.tops.items (tops ++ tops_in_root root.now)) }
         ensures listed { self.new.is_listed ≡ self.old.is_listed }
@@ -168,6 +178,8 @@ impl Gathering {
     fn add_subtree(&mut self, rank: Rank, root: &SubtreeRoot) -> Result<(), SnapshotError>
         ensures twice { (facts : List Fact) → HasTold self.old facts → (path : PathText) (one two : ℕ)
             → IsErrOf result (SnapshotError.TwoClaims path one two) → IsToldTwice facts root.now rank path one two }
+        ensures many { (facts : List Fact) → HasTold self.old facts → IfErr result (IsClaimOrGrowth
+            (AreTooManyNamed self.old.tree.seen (facts ++ roots_in rank (root.now ∷ [])))) }
         ensures claimed { OnOk result ((fragment : List ℕ) → IsClaim root.now fragment
             → path_number self.new.fragments fragment ≡ Some rank) }
         ensures kept { OnOk result (StillClaimed self.old.fragments self.new.fragments) }
@@ -192,6 +204,8 @@ impl Gathering {
         ensures twice { (facts : List Fact) → HasTold self.old facts → (path : PathText) (one two : ℕ)
             → IsErrOf result (SnapshotError.TwoClaims path one two)
             → (root : SubtreeRoot) × IsAmong roots.now root × IsToldTwice facts root rank path one two }
+        ensures many { (facts : List Fact) → HasTold self.old facts → IfErr result (IsClaimOrGrowth
+            (AreTooManyNamed self.old.tree.seen (facts ++ roots_in rank roots.now))) }
         ensures claimed { OnOk result (AreClaimed self.new.fragments roots.now rank) }
         ensures kept { OnOk result (StillClaimed self.old.fragments self.new.fragments) }
         ensures seen { self.new.tree.seen ≡ self.old.tree.seen }
@@ -212,6 +226,8 @@ impl Gathering {
         ensures seen { self.new.tree.seen ≡ self.old.tree.seen }
         ensures told { (facts : List Fact) → HasTold self.old facts
             → OnOk result (HasTold self.new (facts ++ values_in (listed.now ∷ []))) }
+        ensures many { (facts : List Fact) → HasTold self.old facts → IfErr result (IsGrowthError
+            (AreTooManyNamed self.old.tree.seen (facts ++ values_in (listed.now ∷ [])))) }
         ensures listed { self.new.is_listed ≡ self.old.is_listed }
         ensures numbered { self.new.is_numbered ≡ self.old.is_numbered }
     {
@@ -228,6 +244,8 @@ impl Gathering {
         ensures seen { self.new.tree.seen ≡ self.old.tree.seen }
         ensures told { (facts : List Fact) → HasTold self.old facts
             → OnOk result (HasTold self.new (facts ++ values_in listing.now)) }
+        ensures many { (facts : List Fact) → HasTold self.old facts → IfErr result (IsGrowthError
+            (AreTooManyNamed self.old.tree.seen (facts ++ values_in listing.now))) }
         ensures listed { self.new.is_listed ≡ self.old.is_listed }
         ensures numbered { self.new.is_numbered ≡ self.old.is_numbered }
     {
@@ -243,6 +261,8 @@ impl Gathering {
         ensures seen { self.new.tree.seen ≡ self.old.tree.seen }
         ensures told { (facts : List Fact) → HasTold self.old facts
             → OnOk result (HasTold self.new (facts ++ values_in listing.now)) }
+        ensures many { (facts : List Fact) → HasTold self.old facts → IfErr result (IsGrowthError
+            (AreTooManyNamed self.old.tree.seen (facts ++ values_in listing.now))) }
         ensures listed { OnOk result (self.new.is_listed ≡ true) }
         ensures numbered { self.new.is_numbered ≡ self.old.is_numbered }
     {
@@ -256,6 +276,8 @@ impl Gathering {
         ensures seen { self.new.tree.seen ≡ self.old.tree.seen }
         ensures told { (facts : List Fact) → HasTold self.old facts
             → OnOk result (HasTold self.new (facts ++ values_in listing.now)) }
+        ensures many { (facts : List Fact) → HasTold self.old facts → IfErr result (IsGrowthError
+            (AreTooManyNamed self.old.tree.seen (facts ++ values_in listing.now))) }
         ensures listed { self.new.is_listed ≡ self.old.is_listed }
         ensures numbered { OnOk result (self.new.is_numbered ≡ true) }
     {

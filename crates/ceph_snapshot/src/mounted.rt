@@ -3,9 +3,11 @@
 //! A dump names a directory by the names that a rank keeps. They are not those of the mount where a directory is
 //! case-insensitive (Ceph folds its names), where names are encrypted, and where it was renamed meanwhile. Its inode
 //! number is the same.
-ghost use Rattle.std.specs.Prelude.{◌≡◌, ℕ, IfOk, OnOk, None, Some, is_some, nat_eq, slice_get, if◌then◌else◌};
+ghost use Rattle.std.specs.Prelude.{◌≡◌, ◌<◌, ◌^◌, ℕ, IfErr, IfOk, OnOk, None, Some, is_some, length, nat_eq};
+ghost use Rattle.std.specs.Prelude.{slice_get, if◌then◌else◌};
 ghost use Rattle.std.specs.HashMap.{get};
 ghost use Rattle.std.specs.Option.{option_map};
+ghost use Rattle.ceph_snapshot.specs.Growth.{IsGrowthError};
 ghost use Rattle.ceph_snapshot.specs.Mounts.{is_number, mounted_heat, mounted_path, mounted_root};
 ghost use Rattle.ceph_dumps.specs.Subtrees.{root_data};
 ghost use Rattle.ceph_snapshot.specs.Mounts.{only_path, paths_of};
@@ -59,7 +61,8 @@ fn note(
 impl Mounted {
     /// The numbers of a listing.
     pub fn new(alloc: Global, listing: Vec<ListedDir>) -> Result<Mounted, SnapshotError>
-        ensures { IfOk result (λ mounted. mounted ≡ listing.items) }
+        ensures numbers { IfOk result (λ mounted. mounted ≡ listing.items) }
+        ensures many { IfErr result (IsGrowthError (2 ^ 32 < length listing.items)) }
     {
         let mut places = HashMap::new(alloc);
         for at in 0..listing.len() {

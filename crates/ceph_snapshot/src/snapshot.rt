@@ -18,6 +18,7 @@ ghost use Rattle.ceph_snapshot.specs.Gathered.{numbers_of, path_pin_at, whose_pi
 ghost use Rattle.ceph_snapshot.specs.Gathered.{is_unknown_at, listed_at, listed_of, with_unknown};
 ghost use Rattle.ceph_snapshot.specs.Heard.{BearsOut, HasDirectory, HasSpreadHeat, HasTold};
 ghost use Rattle.ceph_snapshot.specs.Holding.{most_heat};
+ghost use Rattle.ceph_snapshot.specs.Named.{IsPathNamed};
 ghost use Rattle.ceph_snapshot.specs.Shown.{shown_path};
 ghost use Rattle.ceph_snapshot.specs.Snapshots.{IsSnapshot};
 ghost use Rattle.ceph_snapshot.specs.Sightings.{AreBelowParents, AreCold, HasSeen, LieAt, account_at, account_by};
@@ -225,6 +226,8 @@ fn confirm(alloc: Global, nodes: &[Node], hearsay: &[Hearsay]) -> Result<(), Sna
     ensures unclaimed { (path : PathText) (by said : ℕ) → IsErrOf result (SnapshotError.Unclaimed path by said)
         → IsUnclaimed nodes.now hearsay.now path by said }
     ensures here { IsErrOf result SnapshotError.Elsewhere → ⊥ }
+    ensures many { IsErrOf result SnapshotError.TooMany → ⊥ }
+    ensures twice { (path : PathText) (one two : ℕ) → IsErrOf result (SnapshotError.TwoClaims path one two) → ⊥ }
 {
     for said in hearsay {
         if !is_confirmed(nodes, *said) {
@@ -376,6 +379,10 @@ impl Gathering {
         ensures spread { IfOk result (HasSpreadHeat self.tree.seen samples) }
         ensures told { (facts : List Fact) → HasTold self facts
             → IfOk result (BearsOut facts self.is_listed self.tree.nodes) }
+        ensures named { (facts : List Fact) → HasTold self facts → IfOk result (λ snapshot.
+            All (λ d. IsPathNamed self.tree.seen facts d.path.items) snapshot.directories.items) }
+        ensures many { IsErrOf result SnapshotError.TooMany → ⊥ }
+        ensures twice { (path : PathText) (one two : ℕ) → IsErrOf result (SnapshotError.TwoClaims path one two) → ⊥ }
     {
         let Gathering {
             alloc,

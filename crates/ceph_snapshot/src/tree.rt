@@ -1,7 +1,10 @@
 //! The directories that dumps name, and the heat that ranks have seen at them.
-ghost use Rattle.std.specs.Prelude.{◌≡◌, ◌++◌, ◌∷◌, [], ℕ, Some, None, is_some, IfOk, IfSome, IsErrOf, OnOk};
+ghost use Rattle.std.specs.Prelude.{◌≡◌, ◌++◌, ◌∷◌, [], ℕ, Some, None, is_some, IfErr, IfOk, IfSome, IsErrOf, OnOk};
 ghost use Rattle.std.specs.Prelude.{◌<◌, All, List, length, map, slice_index_or, take, if◌then◌else◌};
 ghost use Rattle.ceph_snapshot.specs.Authority.{PathText, is_user_path};
+ghost use Rattle.ceph_snapshot.specs.Growth.{IsGrowthError};
+ghost use Rattle.ceph_snapshot.specs.Named.{ArePathsNamed, AreOldOr, AreTooManyPaths, IsOldOr, IsUpFrom};
+ghost use Rattle.ceph_snapshot.specs.Names.{IsAtOrAbove};
 ghost use Rattle.ceph_snapshot.specs.Facts.{AreAsTold, Fact, IsAsTold, IsWith, KeepNumbers, Root, StillTold, Value};
 ghost use Rattle.ceph_snapshot.specs.Sightings.{AreBelowParents, AreCold, HaveOwnPaths, IsNumberOf, IsParentOf};
 ghost use Rattle.ceph_snapshot.specs.Sightings.{of_fragment, account_of, with_path};
@@ -65,6 +68,7 @@ impl Tree {
     pub(crate) fn new(alloc: Global) -> Result<Tree, AllocError>
         ensures seen { IfOk result (λ tree. tree.seen ≡ []) }
         ensures told { IfOk result (λ tree. AreAsTold tree.nodes []) }
+        ensures only { IfOk result (λ tree. ArePathsNamed [] [] tree.nodes) }
     {
         Ok(Tree {
             names: Names::new(alloc)?,
@@ -84,6 +88,9 @@ impl Tree {
         ensures seen { self.new.seen ≡ self.old.seen }
         ensures path { IfOk result (IsNumberOf self.new.nodes path.now) }
         ensures kept { OnOk result (StillTold self.old.nodes self.new.nodes) }
+        ensures only { OnOk result (AreOldOr self.old.nodes (λ other. IsAtOrAbove other path.now) self.new.nodes) }
+        ensures many { IfErr result (IsGrowthError
+            (AreTooManyPaths (IsOldOr self.old.nodes (λ other. IsAtOrAbove other path.now)))) }
         ensures twice { (path : PathText) (one two : ℕ) → IsErrOf result (SnapshotError.TwoClaims path one two) → ⊥ }
     {
         if let Some(number) = self.names.number(path) {
@@ -124,6 +131,8 @@ impl Tree {
         ensures some { IfOk result (λ number. is_some number ≡ is_user_path path.now) }
         ensures path { IfOk result (λ number. IfSome number (IsNumberOf self.new.nodes path.now)) }
         ensures kept { OnOk result (StillTold self.old.nodes self.new.nodes) }
+        ensures only { OnOk result (AreOldOr self.old.nodes (IsUpFrom path.now) self.new.nodes) }
+        ensures many { IfErr result (IsGrowthError (AreTooManyPaths (IsOldOr self.old.nodes (IsUpFrom path.now)))) }
         ensures twice { (path : PathText) (one two : ℕ) → IsErrOf result (SnapshotError.TwoClaims path one two) → ⊥ }
     {
         if !is_user_path(path) {
@@ -151,6 +160,9 @@ impl Tree {
         ensures seen { OnOk result (self.new.seen ≡ self.old.seen
             ++ (if is_user_path fragment.now.path.items then of_fragment rank fragment.now ∷ [] else [])) }
         ensures kept { OnOk result (StillTold self.old.nodes self.new.nodes) }
+        ensures only { OnOk result (AreOldOr self.old.nodes (IsUpFrom fragment.now.path.items) self.new.nodes) }
+        ensures many { IfErr result (IsGrowthError
+            (AreTooManyPaths (IsOldOr self.old.nodes (IsUpFrom fragment.now.path.items)))) }
     {
         if let Some(directory) = self.number(alloc, fragment.path.as_slice())? {
             self.sightings.push(Sighting {
@@ -171,6 +183,7 @@ impl Tree {
         ensures told { (facts : List Fact) → AreAsTold self.old.nodes facts
             → AreAsTold self.new.nodes (facts ++ Root rank root.now ∷ []) }
         ensures numbers { KeepNumbers self.old.nodes self.new.nodes }
+        ensures only { KeepNumbers self.new.nodes self.old.nodes }
     {
         add_root(&mut self.nodes[directory as usize], rank, root);
     }
@@ -182,6 +195,7 @@ impl Tree {
         ensures told { (facts : List Fact) → AreAsTold self.old.nodes facts
             → AreAsTold self.new.nodes (facts ++ Value listed.now ∷ []) }
         ensures numbers { KeepNumbers self.old.nodes self.new.nodes }
+        ensures only { KeepNumbers self.new.nodes self.old.nodes }
     {
         add_value(&mut self.nodes[directory as usize], listed);
     }

@@ -5,7 +5,8 @@ use Rattle.ceph_folding.specs.Amounts.{amount_at}
 use Rattle.ceph_folding.specs.Folding.{brought}
 use Rattle.ceph_folding.specs.TooMany.{IsPastCount}
 use Rattle.ceph_folding.proofs.Folds.{brought-alike}
-use Rattle.ceph_folding.proofs.PastCounts.{growth_for, past_alike}
+use Rattle.ceph_folding.proofs.PastCounts.{past_alike}
+use Rattle.ceph_snapshot.proofs.Growth.{growth_for}
 use Rattle.ceph_folding.proofs.amounts.brought_home.Goals as goal
 
 pub returns-clause-sums : goal.returns-clause-sums

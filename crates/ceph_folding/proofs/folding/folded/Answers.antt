@@ -6,7 +6,7 @@ use Rattle.ceph_folding.specs.Folding.{AreHoursLeft, IsHome, brought, kept_below
 use Rattle.ceph_folding.specs.TooMany.{IsPastCount, IsTooMuch}
 use Rattle.ceph_snapshot.specs.Holding.{heat_at, inodes_at, parent_at, writes_at, is_marked}
 use Rattle.ceph_folding.proofs.Folds.{handed_back, has_left}
-use Rattle.ceph_folding.proofs.PastCounts.{growth_for}
+use Rattle.ceph_snapshot.proofs.Growth.{growth_for}
 use Rattle.ceph_folding.proofs.folding.folded.Goals as goal
 
 pub returns-clause-left : goal.returns-clause-left

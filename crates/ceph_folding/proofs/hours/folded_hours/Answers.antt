@@ -7,7 +7,7 @@ use Rattle.std.specs.List.{IsAmong}
 use Rattle.ceph_folding.specs.Folding.{AreHeatsLeft}
 use Rattle.ceph_folding.specs.TooMany.{IsPastCount}
 use Rattle.ceph_snapshot.specs.Holding.{is_marked}
-use Rattle.ceph_folding.proofs.PastCounts.{growth_for}
+use Rattle.ceph_snapshot.proofs.Growth.{growth_for}
 use Rattle.ceph_folding.proofs.hours.folded_hours.Goals as goal
 
 pub loop-hour-preserved : goal.loop-hour-preserved

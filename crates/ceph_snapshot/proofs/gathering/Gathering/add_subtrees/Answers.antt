@@ -1,12 +1,16 @@
-use Rattle.std.proofs.Common.{◌≡◌, ◌≢◌, ◌∙◌, ◌<◌, ◌++◌, ℕ, List, IsErrOf, ap, arith, get_or, length, rules, subst, sym, take, ⊎_elim}
+use Rattle.std.proofs.Common.{◌≡◌, ◌≢◌, ◌∙◌, ◌<◌, ◌++◌, ◌∷◌, [], ℕ, List, IsErrOf, ap, arith, get_or, length, rules, subst, sym, take, ⊎_elim}
 use Rattle.std.proofs.lemmas.Bool.{cases_eq}
 use Rattle.std.proofs.lemmas.List.{get_or_read, take_all}
+use Rattle.std.proofs.lemmas.Result.{err_from_is_err_and}
 use Rattle.ceph_dumps.specs.declared.subtrees.SubtreeRoot.{SubtreeRoot}
 use Rattle.ceph_snapshot.specs.Authority.{IsClaim, is_user_path}
 use Rattle.ceph_snapshot.specs.Facts.{Fact, Root, roots_in}
 use Rattle.ceph_snapshot.specs.Heard.{HasTold}
 use Rattle.ceph_snapshot.specs.declared.snapshot_error.SnapshotError.TheVariants.{TwoClaims}
 use Rattle.ceph_snapshot.proofs.Heard.{claims_before}
+use Rattle.ceph_snapshot.specs.Named.{AreTooManyNamed}
+use Rattle.ceph_snapshot.proofs.Growth.{claim_for}
+use Rattle.ceph_snapshot.proofs.Named.{many_told}
 use Rattle.ceph_snapshot.proofs.Told.{filtered_more}
 use Rattle.ceph_snapshot.proofs.gathering.Gathering.add_subtrees.Goals as goal
 
@@ -64,3 +68,19 @@ pub returns-clause-told : goal.returns-clause-told
 returns-clause-told c =
     subst (λ (those : List SubtreeRoot). (facts : List Fact) → HasTold c.args.self.now facts → HasTold c.loop-root.self (facts ++ roots_in c.args.rank those))
     (take_all c.loop-root.root-index c.args.roots.now c.loop-root-test.false) c.loop-root.invariant.told
+
+pub returns-in_err-add_subtree-clause-many : goal.returns-in_err-add_subtree-clause-many
+returns-in_err-add_subtree-clause-many c = λ facts before.
+    let roots : List SubtreeRoot = c.args.roots.now in
+    let rank : ℕ = c.args.rank in
+    let at : ℕ = c.loop-root.root-index in
+    let one : SubtreeRoot = c.root-item.result in
+    let inside : at < length roots = omega (arith, c.loop-root-test.true) in
+    let so_far : List Fact = facts ++ roots_in rank (take at roots) in
+    let e = err_from_is_err_and c.from_residual.result c.from_residual.ensures.1 in
+    rw (e.1, e.2)
+    (claim_for (AreTooManyNamed c.loop-root.self.tree.seen (so_far ++ roots_in rank (one ∷ [])))
+    (AreTooManyNamed c.args.self.now.tree.seen (facts ++ roots_in rank roots)) c.in_err-add_subtree.field-0.0
+    (many_told (Root rank) (λ root. is_user_path root.path.items) c.args.self.now.tree.seen c.loop-root.self.tree.seen facts roots at one inside
+    c.root-item.is c.loop-root.invariant.seen)
+    (c.in_err-add_subtree.ensures.many so_far (c.loop-root.invariant.told facts before)))

@@ -11,8 +11,9 @@ use Rattle.ceph_snapshot.specs.Doubts.{have_left, is_named, is_named_doubtful, n
 use Rattle.ceph_snapshot.specs.Gathered.{is_unknown_at, listed_at, listed_of, numbers_of, path_pin_at, with_owner, with_unknown}
 use Rattle.ceph_snapshot.specs.Heard.{heard_in, spread_seen, tops_in}
 use Rattle.ceph_snapshot.specs.Holding.{most_heat}
+use Rattle.ceph_snapshot.specs.Named.{IsPathNamed}
 use Rattle.ceph_snapshot.specs.Sightings.{HaveOwnPaths, LieAt, PathHeat, mean_account, position_of, account_of, account_at, account_by, torn_heat, with_path}
-use Rattle.ceph_snapshot.proofs.ByPath.{HavePathsOf, all_borne_out, claimed_once, listed_by_path, paths_of_nodes, seen_there, spread_by_path}
+use Rattle.ceph_snapshot.proofs.ByPath.{HavePathsOf, all_borne_out, all_paths, claimed_once, listed_by_path, paths_of_nodes, seen_there, spread_by_path}
 use Rattle.ceph_snapshot.proofs.Doubtful.{left_read, number_of, number_seen, numbers_read, seen_of}
 use Rattle.ceph_snapshot.proofs.Owners.{listed_placed, owner_from_map, pin_placed, account_placed}
 use Rattle.ceph_snapshot.proofs.Parents.{snapshot_of}
@@ -141,6 +142,12 @@ returns-clause-told c = λ facts was.
           was.tops (returns-clause-listed c);
       once = claimed_once c.args.self facts was;
     }
+
+pub returns-clause-named : goal.returns-clause-named
+returns-clause-named c = λ facts was.
+    let nodes : List Node = c.args.self.tree.nodes in
+    let ds : List Directory = c.keep.new.directories.items in
+    all_paths nodes ds (IsPathNamed c.args.self.tree.seen facts) (paths_of_nodes c.args.own.now c.args.ranks nodes ds (returns-clause-owner c)) was.named
 
 -- of each directory, the number that dumps name is counted, and the listed one is as it was
 all_seen : (nodes held counted : List Node) (ss : List Sighting) (seen : List PathHeat) → map (with_path nodes) ss ≡ seen

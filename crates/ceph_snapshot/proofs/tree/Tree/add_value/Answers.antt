@@ -15,4 +15,4 @@ pub invariant_of-self : goal.invariant_of-self
 invariant_of-self c = (all c).numbered
 
 pub returns : goal.returns
-returns c = record { seen = (all c).seen; told = (all c).told; numbers = (all c).numbers }
+returns c = record { seen = (all c).seen; told = (all c).told; numbers = (all c).numbers; only = (all c).only }

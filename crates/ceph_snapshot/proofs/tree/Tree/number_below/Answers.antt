@@ -1,12 +1,14 @@
-use Rattle.std.proofs.Common.{rules, ◌≡◌, ◌∙◌, ◌++◌, ◌∷◌, [], ℕ, List, Some, None, ap, cond, length, map, subst, sym}
+use Rattle.std.proofs.Common.{rules, ◌≡◌, ◌∙◌, ◌≤◌, ◌^◌, ◌++◌, ◌∷◌, [], ℕ, List, Some, None, ap, arith, cond, length, map, subst, sym}
 use Rattle.std.specs.Str.{bytes_eq}
 use Rattle.std.proofs.lemmas.Bool.{cond-true}
 use Rattle.std.proofs.lemmas.Slice.Eq.{bytes_eq-Decides}
 use Rattle.ceph_snapshot.specs.declared.tree.Node.{Node}
-use Rattle.ceph_snapshot.specs.Names.{path_number}
+use Rattle.ceph_snapshot.specs.Named.{AreOldOr, AreTooManyPaths, IsOldOr}
+use Rattle.ceph_snapshot.specs.Names.{IsAtOrAbove, path_number}
 use Rattle.ceph_snapshot.specs.Sightings.{Account, IsNumberOf, IsNumbered, IsParentOf, TreeData, account_of, with_path}
 use Rattle.ceph_snapshot.proofs.Numbers.{at_number, numbered_more, seen_same, account_more}
 use Rattle.ceph_snapshot.specs.Facts.{StillTold}
+use Rattle.ceph_snapshot.proofs.Named.{many_numbered, old_more, old_same}
 use Rattle.ceph_snapshot.proofs.Told.{still_more}
 use Rattle.ceph_snapshot.proofs.tree.Tree.number_below.Goals as goal
 
@@ -70,3 +72,27 @@ returns-clause-kept c =
     subst (λ (ns : List Node). StillTold ns c.push_reserved.new.self.items) (ap (λ (v : TreeData). v.nodes) c.self.view_is)
     (subst (StillTold t.nodes.items) (sym items)
     (still_more t.names t.nodes.items node path t.sightings.items fresh is c.unknown-node.ensures.told c.self.invariant))
+
+pub returns-in-Some-clause-only : goal.returns-in-Some-clause-only
+returns-in-Some-clause-only c = old_same c.args.self.now.nodes (λ other. IsAtOrAbove other c.args.path.now)
+
+pub returns-clause-only : goal.returns-clause-only
+returns-clause-only c =
+    let t = c.self.inside in
+    let node : Node = c.unknown-node.result in
+    let path : List ℕ = c.args.path.now in
+    let Is : List ℕ → Type 0 = λ other. IsAtOrAbove other path in
+    let items : c.push_reserved.new.self.items ≡ t.nodes.items ++ node ∷ [] = c.push_reserved.ensures.items
+    ∙ ap (λ (ns : List Node). ns ++ node ∷ []) c.reserve.ensures.items in
+    let is : node.directory.path.items ≡ path = ap (λ (t : Account). t.0) c.unknown-node.ensures.account ∙ c.in_ok-from_slice.ensures.items in
+    subst (λ (ns : List Node). AreOldOr ns Is c.push_reserved.new.self.items) (ap (λ (v : TreeData). v.nodes) c.self.view_is)
+    (subst (AreOldOr t.nodes.items Is) (sym items) (old_more t.nodes.items node path is))
+
+pub returns-in_default-try_from-clause-many : goal.returns-in_default-try_from-clause-many
+returns-in_default-try_from-clause-many c =
+    let t = c.self.inside in
+    let path : List ℕ = c.args.path.now in
+    let fresh : path_number t.names path ≡ None = search rules in
+    let full : 2 ^ 32 ≤ length t.nodes.items = search (rules, arith) in
+    subst (λ (v : TreeData). AreTooManyPaths (IsOldOr v.nodes (λ other. IsAtOrAbove other path))) c.self.view_is
+    (many_numbered t.names t.nodes.items path t.sightings.items c.self.invariant fresh full)
