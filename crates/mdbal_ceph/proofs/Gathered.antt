@@ -17,6 +17,7 @@ use Rattle.ceph_snapshot.specs.Doubts.{have_left, with_numbers}
 use Rattle.ceph_snapshot.specs.Facts.{Fact}
 use Rattle.ceph_snapshot.specs.Gathered.{numbers_at, path_pin_at, whose_pin_at, with_owner}
 use Rattle.ceph_snapshot.specs.Heard.{BearsOut, HasDirectory, HasSpreadHeat, HasTold}
+use Rattle.ceph_snapshot.specs.Named.{IsPathNamed}
 use Rattle.ceph_snapshot.specs.Sightings.{HasSeen, LieAt, PathHeat}
 use Rattle.ceph_snapshot.specs.declared.gathering.Gathering.{Gathering}
 use Rattle.ceph_snapshot.specs.declared.snapshot.Snapshot.{Snapshot}
@@ -126,8 +127,9 @@ pub snapshot_of : (g : Gathering) (snapshot : Snapshot) (seen : List PathHeat) (
     → ((i : ℕ) → whose_pin_at snapshot.directories.items i ≡ option_map (with_owner own ranks) (path_pin_at g.tree.nodes i))
     → All (λ s. HasDirectory snapshot.directories.items s.path) g.tree.seen → HasSpreadHeat g.tree.seen count snapshot
     → ((those : List Fact) → HasTold g those → BearsOut those g.is_listed g.tree.nodes snapshot)
+    → ((those : List Fact) → HasTold g those → All (λ d. IsPathNamed g.tree.seen those d.path.items) snapshot.directories.items)
     → IsSnapshotOf seen facts listed numbered count own ranks snapshot
-snapshot_of g snapshot seen facts listed numbered count own ranks all authority heat numbers here owner there spread told = record {
+snapshot_of g snapshot seen facts listed numbered count own ranks all authority heat numbers here owner there spread told named = record {
   nodes = g.tree.nodes;
   placed = authority.0;
   told = all.told.told;
@@ -135,6 +137,7 @@ snapshot_of g snapshot seen facts listed numbered count own ranks all authority 
   lie = authority.3;
   heat = subst (λ (s : List PathHeat). All (HasSeen s count) snapshot.directories.items) all.seen_is heat;
   there = subst (All (λ s. HasDirectory snapshot.directories.items s.path)) all.seen_is there;
+  named = subst (λ (s : List PathHeat). All (λ d. IsPathNamed s facts d.path.items) snapshot.directories.items) all.seen_is (named facts all.told);
   spread = subst (λ (s : List PathHeat). HasSpreadHeat s count snapshot) all.seen_is spread;
   here = subst (λ (s : List PathHeat). have_left numbered s g.tree.nodes ≡ false) all.seen_is
       (subst (λ (b : Bool). have_left b g.tree.seen g.tree.nodes ≡ false) all.numbered_is here);

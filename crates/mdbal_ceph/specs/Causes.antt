@@ -1,6 +1,6 @@
 -- Why a run has no result.
-use Rattle.std.specs.Prelude.{◌≡◌, ◌≢◌, ◌⊎◌, ◌<◌, ◌≤◌, ⊤, ℕ, All, Bool, true, false, List, Option, Some, None, Result}
-use Rattle.std.specs.Prelude.{Vec, codes, is_some, length, map, string_bytes}
+use Rattle.std.specs.Prelude.{◌≡◌, ◌≢◌, ◌⊎◌, ◌<◌, ◌≤◌, ◌^◌, ⊤, ℕ, All, Bool, true, false, List, Option, Some, None}
+use Rattle.std.specs.Prelude.{Result, Vec, codes, is_some, length, map, string_bytes}
 use Rattle.std.specs.Global.{Global}
 use Rattle.std.specs.List.{IsAmong}
 use Rattle.mds_types.specs.RankSet.{has_rank}
@@ -8,18 +8,21 @@ use Rattle.ceph_dumps.specs.Balancer.{IsBalancer}
 use Rattle.ceph_dumps.specs.Complete.{IsCompleteError}
 use Rattle.ceph_dumps.specs.HourRecord.{IsBrokenHour, IsHourError}
 use Rattle.ceph_dumps.specs.Inodes.{IsBrokenRecord}
-use Rattle.ceph_dumps.specs.Listing.{IsListingError}
+use Rattle.ceph_dumps.specs.Listing.{AreValuesListed, IsListingError}
 use Rattle.ceph_dumps.specs.OwnList.{IsPinListError}
 use Rattle.ceph_dumps.specs.declared.cluster.FileSystemRanks.{FileSystemRanks}
 use Rattle.ceph_dumps.specs.declared.dump_error.DumpError.{DumpError}
 use Rattle.ceph_dumps.specs.declared.dump_error.DumpError.TheVariants as dump
 use Rattle.ceph_dumps.specs.declared.listing.ListedDir.{ListedDir}
+use Rattle.ceph_dumps.specs.declared.loads.FragmentHeat.{FragmentHeat}
 use Rattle.ceph_dumps.specs.declared.subtrees.SubtreeRoot.{SubtreeRoot}
 use Rattle.ceph_snapshot.specs.Authority.{IsUnclaimed, LieAsClaimed, PathText, fragment_of}
 use Rattle.ceph_snapshot.specs.Doubts.{have_left}
 use Rattle.ceph_snapshot.specs.Facts.{AreAsTold, Fact, Root, Value}
 use Rattle.ceph_snapshot.specs.Heard.{AreHeardAt, HasTold, heard_in}
+use Rattle.ceph_snapshot.specs.Named.{AreTooManyNamed}
 use Rattle.ceph_snapshot.specs.Shown.{shown_path}
+use Rattle.ceph_snapshot.specs.Sightings.{PathHeat, seen_in}
 use Rattle.ceph_snapshot.specs.declared.gathering.Gathering.{Gathering}
 use Rattle.ceph_snapshot.specs.declared.gathering.Hearsay.{Hearsay}
 use Rattle.ceph_snapshot.specs.declared.snapshot_error.SnapshotError.{SnapshotError}
@@ -32,7 +35,7 @@ use Rattle.pin_driver.specs.StoredText.{FitsText, stored_text}
 use Rattle.pin_driver.specs.declared.question.Mark.{Mark}
 use Rattle.pin_driver.specs.declared.text_error.TextError.{TextError}
 use Rattle.mdbal_ceph.specs.Dumps.{AreDumpsOf, AreInodes, AreRanksOf, DumpKind, DumpValue, Dumps, IsRootsFile}
-use Rattle.mdbal_ceph.specs.Dumps.{IsSampleCount}
+use Rattle.mdbal_ceph.specs.Dumps.{IsLoadsFile, IsSampleCount}
 use Rattle.mdbal_ceph.specs.Dumps.{OfLoads, OfRanks, OfRoots, Ranks, all_facts, all_seen, file_in, loads_file}
 use Rattle.mdbal_ceph.specs.Dumps.{root_facts}
 use Rattle.mdbal_ceph.specs.Dumps.{subtrees_file}
@@ -54,11 +57,11 @@ abbrev pub IsNoMemory : NoResult → Type 0
 IsNoMemory why.Memory = ⊤
 IsNoMemory other = ⊥
 
--- or there are more directories than can be numbered
-abbrev pub IsGrowth : NoResult → Type 0
-IsGrowth why.Memory = ⊤
-IsGrowth why.TooMany = ⊤
-IsGrowth other = ⊥
+-- or there are too many directories, for this cause
+abbrev pub IsGrowth : Type 0 → NoResult → Type 0
+IsGrowth Cause why.Memory = ⊤
+IsGrowth Cause why.TooMany = Cause
+IsGrowth Cause other = ⊥
 
 -- a file can't be read: its device failed
 abbrev pub IsUnread : (List ℕ → FileContent → Type 0) → List ℕ → FileFault → Type 0
@@ -187,20 +190,35 @@ module _ (reads : List ℕ → FileContent → Type 0) (says : List ℕ → Dump
   abbrev pub AreRanksIn : List ℕ → ℕ → Type 0
   AreRanksIn folder ranks = (rank : ℕ) → has_rank ranks rank ≡ true → IsRankIn folder rank
 
-  -- a rank of the file system lists this root in its dump
-  abbrev pub IsListedRoot : List ℕ → Option (List ListedDir) → Fact → Type 0
-  IsListedRoot folder numbers (Root rank root) =
+  -- a rank of the file system lists this root in its dump; or this value was listed over the mount, as an inode number
+  -- or as another one
+  abbrev pub IsFactIn : List ℕ → Option (List ListedDir) → Fact → Type 0
+  IsFactIn folder numbers (Root rank root) =
       IsRankIn folder rank × (roots : List SubtreeRoot)
       × IsRootsFile reads says numbers (subtrees_file folder rank) roots × IsAmong roots root
-  IsListedRoot folder numbers (Value dir) = ⊥
+  IsFactIn folder numbers (Value dir) =
+      ((those : List ListedDir) × (numbers ≡ Some those) × IsAmong those dir)
+      ⊎ ((listing : List ListedDir)
+      × IsInFile reads AreValuesListed (file_in folder (codes "dirs")) listing × IsAmong listing dir)
 
-  -- a folder is read so, and what was gathered so far is what ranks list
+  -- a rank of the file system has seen this heat, by one of its samples
+  pub record IsHeatIn (folder : List ℕ) (numbers : Option (List ListedDir)) (heat : PathHeat) : Type 0 where
+    pub rank : ℕ
+    pub rank_in : IsRankIn folder rank
+    pub sample : ℕ
+    pub sample_in : IsSampleIn folder sample
+    pub loads : List FragmentHeat
+    pub loads_are : IsLoadsFile reads says numbers (loads_file folder rank sample) loads
+    pub among : IsAmong (seen_in rank loads) heat
+
+  -- a folder is read so, and what was gathered so far is what its files say
   pub record IsReadInto (folder : List ℕ) (numbers : Option (List ListedDir)) (count : ℕ) (gathering : Gathering)
       : Type 0 where
     pub read : IsReadWith folder numbers count
+    pub seen_in_files : All (IsHeatIn folder numbers) gathering.tree.seen
     pub facts : List Fact
     pub told : HasTold gathering facts
-    pub listed : All (IsListedRoot folder numbers) facts
+    pub listed : All (IsFactIn folder numbers) facts
 
   -- by this root in its dump a rank claims a fragment of a directory
   pub record IsClaimOf (folder : List ℕ) (numbers : Option (List ListedDir)) (rank : ℕ) (fragment : List ℕ)
@@ -251,6 +269,23 @@ module _ (reads : List ℕ → FileContent → Type 0) (says : List ℕ → Dump
     pub told : AreAsTold nodes (all_facts dumps)
     pub left : have_left (is_some dumps.numbers) (all_seen dumps.ranks) nodes ≡ true
 
+  -- the files of a folder name more directories than 32 bits can number: each is at or above one where a rank has seen
+  -- heat, or one of a root or a listed value
+  pub record AreTooManyIn (folder : List ℕ) : Type 0 where
+    pub numbers : Option (List ListedDir)
+    pub numbers_are : IsInFileIfAny reads AreInodes (file_in folder (codes "inodes")) numbers
+    pub seen : List PathHeat
+    pub seen_in_files : All (IsHeatIn folder numbers) seen
+    pub facts : List Fact
+    pub listed : All (IsFactIn folder numbers) facts
+    pub many : AreTooManyNamed seen facts
+
+  -- more inode numbers were listed than that
+  pub record AreTooManyNumbers (folder : List ℕ) : Type 0 where
+    pub numbers : List ListedDir
+    pub numbers_are : IsInFile reads AreInodes (file_in folder (codes "inodes")) numbers
+    pub many : 2 ^ 32 < length numbers
+
   -- what the files say that can't be so
   abbrev pub IsDoubtful : List ℕ → SnapshotError → Type 0
   IsDoubtful folder doubt.Memory = ⊥
@@ -260,15 +295,14 @@ module _ (reads : List ℕ → FileContent → Type 0) (says : List ℕ → Dump
   IsDoubtful folder (doubt.Unclaimed path by authority) = IsUnclaimedIn folder path by authority
 
   -- why the files of a folder give no directories: memory was refused; a file is not there or not what it has to be;
-  -- what the files say can't be so; or they name more directories than can be numbered, of which no clause says how
-  -- many that are
+  -- what the files say can't be so; or they name more directories, or list more inode numbers, than can be numbered
   abbrev pub IsFolderFault : List ℕ → NoResult → Type 0
   IsFolderFault folder why.Memory = ⊤
   IsFolderFault folder (why.File told one) =
       (file : DumpFile) × IsToRead folder file × (string_bytes told ≡ dump_name folder file)
       × IsFileCause (dump_name folder file) file one
   IsFolderFault folder (why.Gathered error) = IsDoubtful folder error
-  IsFolderFault folder why.TooMany = ⊤
+  IsFolderFault folder why.TooMany = AreTooManyIn folder ⊎ AreTooManyNumbers folder
   IsFolderFault folder other = ⊥
 
   -- or what is wrong is in the list of pins of this name, where one is named

@@ -15,6 +15,7 @@ use Rattle.ceph_snapshot.specs.Facts.{AreAsTold, Fact}
 use Rattle.ceph_snapshot.specs.Gathered.{foreign_pin, idle_pin, listed_rank, numbers_at, our_pin, path_pin_at}
 use Rattle.ceph_snapshot.specs.Gathered.{whose_pin_at, with_owner}
 use Rattle.ceph_snapshot.specs.Heard.{BearsOut, HasDirectory, HasSpreadHeat, HasTold}
+use Rattle.ceph_snapshot.specs.Named.{IsPathNamed}
 use Rattle.ceph_snapshot.specs.Sightings.{HasSeen, LieAt, PathHeat}
 use Rattle.ceph_snapshot.specs.Snapshots.{IsSnapshot}
 use Rattle.ceph_snapshot.specs.declared.directory.Directory.{Directory}
@@ -87,10 +88,10 @@ pub record Adds (old new : Gathering) (seen : List PathHeat) (facts : List Fact)
   pub listed : new.is_listed ≡ old.is_listed
   pub numbered : new.is_numbered ≡ old.is_numbered
 
--- the directories are those that were seen and told of. Each lies where the ranks claim, and has the mean of the heat
--- that the ranks saw that have it; its pin, entries, policy and inode number are those that were told last. What each
--- rank saw of those that are spread counts as spread at that rank. Each lies where ranks take it to be, and no fragment
--- is claimed by two
+-- the directories are those that were seen and told of, and each of them is named. Each lies where the ranks claim, and
+-- has the mean of the heat that the ranks saw that have it; its pin, entries, policy and inode number are those that
+-- were told last. What each rank saw of those that are spread counts as spread at that rank. Each lies where ranks take
+-- it to be, and no fragment is claimed by two
 pub record IsSnapshotOf (seen : List PathHeat) (facts : List Fact) (listed numbered : Bool) (count : ℕ)
     (own : List OwnPin) (ranks : ℕ) (snapshot : Snapshot) : Type 0 where
   pub nodes : List Node
@@ -100,6 +101,7 @@ pub record IsSnapshotOf (seen : List PathHeat) (facts : List Fact) (listed numbe
   pub lie : LieAt placed snapshot.directories.items
   pub heat : All (HasSeen seen count) snapshot.directories.items
   pub there : All (λ s. HasDirectory snapshot.directories.items s.path) seen
+  pub named : All (λ d. IsPathNamed seen facts d.path.items) snapshot.directories.items
   pub spread : HasSpreadHeat seen count snapshot
   pub here : have_left numbered seen nodes ≡ false
   pub numbers : (i : ℕ) → numbers_at snapshot.directories.items i

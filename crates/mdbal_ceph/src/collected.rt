@@ -8,6 +8,8 @@ ghost use Rattle.ceph_dumps.specs.declared.listing.ListedDir.{ListedDir};
 ghost use Rattle.ceph_dumps.specs.declared.loads.FragmentHeat.{FragmentHeat};
 ghost use Rattle.ceph_dumps.specs.declared.subtrees.SubtreeRoot.{SubtreeRoot};
 ghost use Rattle.ceph_snapshot.specs.Facts.{Fact, roots_in};
+ghost use Rattle.ceph_snapshot.specs.Heard.{HasTold};
+ghost use Rattle.ceph_snapshot.specs.Named.{AreTooManyNamed};
 ghost use Rattle.ceph_snapshot.specs.Sightings.{PathHeat, seen_in};
 ghost use Rattle.ceph_snapshot.specs.Snapshots.{IsSnapshot};
 ghost use Rattle.mds_types.specs.declared.limits.TheConstants.{RANK_LIMIT};
@@ -112,7 +114,9 @@ fn add_loads<F: Folder, D: DumpReader, P: Progress>(
     ensures added { OnOk result ((loads : List FragmentHeat) × IsLoadsFile (F.reads source.now.files.now) D.says
         source.now.mounted (loads_file source.now.folder.now rank sample) loads
         × Adds gathering.old gathering.new (seen_in rank loads) []) }
-    ensures failed { IsRankIn (F.reads source.now.files.now) D.says D.refuses source.now.folder.now rank
+    ensures failed { IsReadInto (F.reads source.now.files.now) D.says D.refuses source.now.folder.now
+        source.now.mounted source.now.samples gathering.old
+        → IsRankIn (F.reads source.now.files.now) D.says D.refuses source.now.folder.now rank
         → IsSampleIn (F.reads source.now.files.now) D.says D.refuses source.now.folder.now sample
         → IfErr result (IsFolderFault (F.reads source.now.files.now) D.says D.refuses
         source.now.folder.now) }
@@ -203,6 +207,11 @@ fn read_dumps<F: Folder, D: DumpReader, P: Progress>(
         × AreRankDumps (F.reads source.now.files.now) D.says
         source.now.mounted source.now.folder.now source.now.samples (ranks_below ranks RANK_LIMIT) dumps
         × HasGathered (all_seen dumps) (root_facts dumps) false false gathering) }
+    ensures read { IsReadWith (F.reads source.now.files.now) D.says D.refuses source.now.folder.now
+        source.now.mounted source.now.samples
+        → AreRanksIn (F.reads source.now.files.now) D.says D.refuses source.now.folder.now ranks
+        → IfOk result (IsReadInto (F.reads source.now.files.now) D.says D.refuses source.now.folder.now
+        source.now.mounted source.now.samples) }
     ensures failed { IsReadWith (F.reads source.now.files.now) D.says D.refuses source.now.folder.now
         source.now.mounted source.now.samples
         → AreRanksIn (F.reads source.now.files.now) D.says D.refuses source.now.folder.now ranks
@@ -224,7 +233,11 @@ fn add_numbers<F, D, P>(
     ensures added { (seen : List PathHeat) (facts : List Fact) → HasGathered seen facts false false gathering.old
         → OnOk result (HasGathered seen (facts ++ listed_facts source.now.mounted) false
         (is_some source.now.mounted) gathering.new) }
-    ensures failed { IfErr result IsGrowth }
+    ensures seen { gathering.new.tree.seen ≡ gathering.old.tree.seen }
+    ensures told { (facts : List Fact) → HasTold gathering.old facts
+        → OnOk result (HasTold gathering.new (facts ++ listed_facts source.now.mounted)) }
+    ensures failed { (facts : List Fact) → HasTold gathering.old facts → IfErr result (IsGrowth
+        (AreTooManyNamed gathering.old.tree.seen (facts ++ listed_facts source.now.mounted))) }
 {
     let Some(mounted) = &source.mounted else {
         return Ok(());
@@ -243,7 +256,9 @@ fn add_listing<F: Folder, D: DumpReader, P: Progress>(
         AreValuesListed (file_in source.now.folder.now (codes "dirs")) listing
         × HasGathered seen (facts ++ listed_facts source.now.mounted ++ listed_facts listing) (is_some listing)
         (is_some source.now.mounted) gathering.new) }
-    ensures failed { IfErr result (IsFolderFault (F.reads source.now.files.now) D.says D.refuses
+    ensures failed { IsReadInto (F.reads source.now.files.now) D.says D.refuses source.now.folder.now
+        source.now.mounted source.now.samples gathering.old
+        → IfErr result (IsFolderFault (F.reads source.now.files.now) D.says D.refuses
         source.now.folder.now) }
 {
     add_numbers(gathering, source)?;

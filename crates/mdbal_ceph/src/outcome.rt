@@ -3,7 +3,8 @@ ghost use Rattle.std.specs.Prelude.{◌≡◌, ◌≤◌, ◌+◌, All, IfErr, I
 ghost use Rattle.std.specs.Option.{option_map};
 ghost use Rattle.ceph_dumps.specs.PathList.{path_bytes};
 ghost use Rattle.ceph_folding.specs.Folding.{AreHoursFolded, AreHoursOf, IsFolded, StillKept};
-ghost use Rattle.ceph_folding.specs.TooMany.{AreTooMany, IsGrowthError};
+ghost use Rattle.ceph_folding.specs.TooMany.{AreTooMany};
+ghost use Rattle.ceph_snapshot.specs.Growth.{IsGrowthError};
 ghost use Rattle.ceph_snapshot.specs.Holding.{AreParentsFirst};
 ghost use Rattle.ceph_snapshot.specs.Snapshots.{IsSnapshot};
 ghost use Rattle.mdbal_ceph.specs.NotMade.{AreTooManyForUnits, IsDecisionFault, IsNotPlanned, IsUsableFault};

@@ -1,10 +1,12 @@
-use Rattle.std.proofs.Common.{◌+◌, ◌≤◌, ◌≡◌, ◌++◌, ◌∷◌, [], ℕ, List, append-nil, arith, refl, subst, sym}
+use Rattle.std.proofs.Common.{◌+◌, ◌≤◌, ◌≡◌, ◌++◌, ◌∷◌, [], ℕ, All, List, append-nil, arith, refl, subst, sym}
 use Rattle.std.specs.List.{flat_map}
 use Rattle.ceph_dumps.specs.declared.loads.FragmentHeat.{FragmentHeat}
 use Rattle.ceph_snapshot.specs.Facts.{roots_in}
 use Rattle.ceph_snapshot.specs.Sightings.{PathHeat, seen_in}
+use Rattle.mdbal_ceph.specs.Causes.{IsFactIn, IsHeatIn, IsReadInto}
 use Rattle.mdbal_ceph.specs.Collections.{Adds}
 use Rattle.mdbal_ceph.specs.Dumps.{AreSamples}
+use Rattle.mdbal_ceph.proofs.Faults.{read_adds, roots_there, samples_there}
 use Rattle.mdbal_ceph.proofs.Gathered.{adds_both, adds_none, piece_more, samples_more, samples_none}
 use Rattle.std.proofs.lemmas.Result.{err_from_is_err_and}
 use Rattle.mdbal_ceph.proofs.collected.add_rank.Goals as goal
@@ -55,10 +57,28 @@ returns-in_err-add_subtrees-clause-failed g c = λ read rank.
 
 pub returns-in_err-add_loads-clause-failed : goal.returns-in_err-add_loads-clause-failed
 returns-in_err-add_loads-clause-failed g c = λ read rank.
+    let reads = g.F.Folder.reads c.args.source.now.files.now in
+    let says = g.D.DumpReader.says in
+    let refuses = g.D.DumpReader.refuses in
+    let folder = c.args.source.now.folder.now in
+    let numbers = c.args.source.now.mounted in
+    let count = c.args.source.now.samples in
+    let was = c.loop-sample.invariant in
+    let sub = c.in_ok-add_subtrees.ensures.added in
+    let none : All (IsHeatIn reads says refuses folder numbers) [] = λ k d l. absurd (omega (arith, l)) in
+    let no_facts : All (IsFactIn reads says refuses folder numbers) [] = λ k d l. absurd (omega (arith, l)) in
+    let few : c.loop-sample.sample ≤ count = omega (arith, c.loop-sample-test.true) in
+    let roots : IsReadInto reads says refuses folder numbers count c.add_subtrees.new.gathering =
+    read_adds reads says refuses folder numbers count c.args.gathering.now c.add_subtrees.new.gathering [] (roots_in c.args.rank sub.0) read
+    sub.2.seen_more sub.2.told none (roots_there reads says refuses folder numbers c.args.rank sub.0 rank sub.1) in
+    let samples : IsReadInto reads says refuses folder numbers count c.loop-sample.gathering =
+    read_adds reads says refuses folder numbers count c.add_subtrees.new.gathering c.loop-sample.gathering (flat_map (seen_in c.args.rank) was.0) []
+    roots was.2.seen_more was.2.told
+    (samples_there reads says refuses folder numbers c.args.rank count c.loop-sample.sample was.0 rank read.read.count_is few was.1) no_facts in
     let e = err_from_is_err_and c.from_residual-in_err-add_loads.result c.from_residual-in_err-add_loads.ensures.1 in
-    rw (e.1, e.2) (c.in_err-add_loads.ensures.failed rank (
-      c.args.source.now.samples,
+    rw (e.1, e.2) (c.in_err-add_loads.ensures.failed samples rank (
+      count,
       read.read.count_is,
       (let one : 1 ≤ c.loop-sample.sample + 1 = omega arith in one),
-      (let few : c.loop-sample.sample + 1 ≤ c.args.source.now.samples = omega (arith, c.loop-sample-test.true) in few),
+      (let last : c.loop-sample.sample + 1 ≤ count = omega (arith, c.loop-sample-test.true) in last),
     ))

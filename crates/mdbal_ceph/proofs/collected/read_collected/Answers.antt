@@ -45,7 +45,7 @@ returns-clause-collected g c =
           (snapshot_of c.add_listing.new.gathering c.in-Ok.snapshot (all_seen ranks.0) (all_facts dumps) (is_some listing.0)
           (is_some c.in_ok-source.source.mounted) c.in_ok-source.source.samples c.listed.result.now
           c.in_ok-cluster.cluster.ranks listing.2 found.authority found.seen found.numbers (found.here (search rules)) found.owner
-          found.there found.spread found.told);
+          found.there found.spread found.told found.named);
     }
 
 pub returns-clause-ours : goal.returns-clause-ours
@@ -83,7 +83,10 @@ returns-in_err-gathering-clause-failed g c =
 pub returns-in_err-add_listing-clause-failed : goal.returns-in_err-add_listing-clause-failed
 returns-in_err-add_listing-clause-failed g c =
     let e = err_from_is_err_and c.from_residual-in_err-add_listing.result c.from_residual-in_err-add_listing.ensures.1 in
-    rw (e.1, e.2) (inl (rw (c.in_ok-source.ensures.files, c.in_ok-source.ensures.folder) at c.in_err-add_listing.ensures.failed))
+    let read = rw (c.in_ok-source.ensures.files, c.in_ok-source.ensures.folder) at c.in_ok-gathering.ensures.read in
+    let failed = rw (c.in_ok-source.ensures.files, c.in_ok-source.ensures.folder) at c.in_err-add_listing.ensures.failed in
+    rw (e.1, e.2) (inl (failed (read (record { numbers_are = c.in_ok-source.ensures.numbers; count_is = c.in_ok-source.ensures.count })
+    (λ rank has. (c.in_ok-cluster.cluster, c.in_ok-cluster.ensures.cluster, has)))))
 
 pub returns-in_err-own-clause-failed : goal.returns-in_err-own-clause-failed
 returns-in_err-own-clause-failed g c =
@@ -111,7 +114,8 @@ returns-in-Err-clause-failed g c =
       ranks = ranks.1;
     } in
     rw c.doubt_error.ensures
-    (inl (doubt_in reads g.D.DumpReader.says g.D.DumpReader.refuses folder c.in-Err.error
+    (inl (doubt_in reads g.D.DumpReader.says g.D.DumpReader.refuses folder c.in-Err.error (λ is. c.in-Err.ensures.many (ap Err is))
+    (λ path one two is. c.in-Err.ensures.twice path one two (ap Err is))
     (λ is. record {
       dumps = dumps;
       dumps_of = record { ranks = ranks_of; listing = listing.1 };

@@ -26,7 +26,7 @@ returns-in-Ok-clause-ranks g c =
       is = found.snapshot;
       directories = snapshot_of c.in_ok-gathering.gathering c.in-Ok.snapshot (all_seen ranks.0) (root_facts ranks.0) false false
           c.in_ok-source.source.samples [] c.in_ok-ranks.field-0.ranks ranks.2
-          found.authority found.seen found.numbers (found.here (search rules)) found.owner found.there found.spread found.told;
+          found.authority found.seen found.numbers (found.here (search rules)) found.owner found.there found.spread found.told found.named;
     }
 
 pub returns-in_err-gathering-clause-failed : goal.returns-in_err-gathering-clause-failed
@@ -50,7 +50,8 @@ returns-clause-failed g c =
       listing = None;
     } in
     rw c.doubt_error.ensures
-    (doubt_in reads g.D.DumpReader.says g.D.DumpReader.refuses folder c.in-Err.error
+    (doubt_in reads g.D.DumpReader.says g.D.DumpReader.refuses folder c.in-Err.error (λ is. c.in-Err.ensures.many (ap Err is))
+    (λ path one two is. c.in-Err.ensures.twice path one two (ap Err is))
     (λ is. absurd (not_left c.in_ok-gathering.gathering.is_numbered _ ranks.2.numbered_is (c.in-Err.ensures.elsewhere (ap Err is))))
     (λ path by authority is.
     let u = c.in-Err.ensures.unclaimed path by authority (ap Err is) in

@@ -1,8 +1,9 @@
 use Rattle.std.proofs.Common.{◌≡◌, ◌<◌, ◌∙◌, Bool, Global, List, Vec, inl, inr, length, sym, true, ℕ}
 use Rattle.std.proofs.lemmas.Result.{IfErr-weaker, IfOk-weaker}
 use Rattle.ceph_folding.specs.Folding.{AreUnitsLeft}
-use Rattle.ceph_folding.specs.TooMany.{AreTooManyToUnits, IsGrowthError}
-use Rattle.ceph_folding.proofs.PastCounts.{growth_for}
+use Rattle.ceph_folding.specs.TooMany.{AreTooManyToUnits}
+use Rattle.ceph_snapshot.specs.Growth.{IsGrowthError}
+use Rattle.ceph_snapshot.proofs.Growth.{growth_for}
 use Rattle.ceph_pins.specs.Volumes.{is_unit}
 use Rattle.ceph_snapshot.specs.Holding.{is_marked}
 use Rattle.ceph_snapshot.specs.Policies.{dir_path_at}
