@@ -1,4 +1,4 @@
-"""What the tests of the module share: a module on the recorded cluster, with the real programs."""
+"""What the tests of the module share: a file system, and a module on the recorded cluster, with the real programs."""
 import os
 import tempfile
 import unittest
@@ -9,6 +9,7 @@ import stand_in
 TOP = os.path.dirname(os.path.dirname(os.path.dirname(os.path.abspath(__file__))))
 stand_in.install()
 from mdbal import programs  # noqa: E402
+from mdbal.cluster import Cluster  # noqa: E402
 from mdbal.module import Job, Module  # noqa: E402
 from mdbal.texts import own_pins, read_plan  # noqa: E402
 
@@ -16,6 +17,33 @@ SAMPLE = f"{TOP}/ceph/samples/reef"
 ROOM = tempfile.TemporaryDirectory()
 for name in ("mdbal_ceph", "mdbal_drive"):
     os.symlink(os.path.abspath(os.environ.get(name.upper(), f"{TOP}/crates/{name}/out/{name}")), f"{ROOM.name}/{name}")
+
+
+class Direct:
+    """Hands without a thread."""
+
+    def __init__(self, lib: Any) -> None:
+        self.lib = lib
+
+    def call(self, todo: Any) -> Any:
+        return todo(self.lib)
+
+
+class OnLibrary(unittest.TestCase):
+    """A cluster on the recorded folder, its client a stand-in."""
+
+    def setUp(self) -> None:
+        self.stored = stand_in.MgrModule.cluster = stand_in.Cluster(SAMPLE)
+        self.mgr = stand_in.MgrModule()  # type: Any
+        self.lib = stand_in.Library(self.stored)  # type: Any
+        self.cluster = Cluster(self.mgr, "lab", Direct(self.lib))  # type: Any
+        self.daemons = {it["rank"]: it for it in self.stored.map["info"].values()}
+
+    def standby(self, rank: int) -> Dict[str, Any]:
+        """One more daemon."""
+        it = {"rank": rank, "state": "up:standby-replay", "name": "s", "gid": 9}
+        self.stored.map["info"]["gid_9"] = it
+        return it
 
 
 class OnSample(unittest.TestCase):

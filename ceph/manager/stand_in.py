@@ -154,6 +154,7 @@ class Library:
         self.open_paths = {}  # type: Dict[int, bytes]
 
     def found(self, path: bytes) -> Directory:
+        assert path.startswith(b'/')
         name = b'' if path == b'/' else path
         if name not in self.cluster.directories:
             name.decode()  # libcephfs fails to print such a path
@@ -222,8 +223,14 @@ class CommandResult:
         self.ev, self.r, self.outb, self.outs = threading.Event(), 0, '', ''
 
 
+DECLARED = {}  # type: Dict[str, Tuple[str, str]]  # the commands: who may give one, and what does it
+
+
 def command(prefix: str, perm: str = 'rw') -> Any:
-    return lambda function: function
+    def declare(function: Any) -> Any:
+        DECLARED[prefix] = (perm, function.__name__)
+        return function
+    return declare
 
 
 class MgrModule:

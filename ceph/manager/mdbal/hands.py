@@ -33,8 +33,8 @@ class Hands:
                 while self._answered(lib):
                     pass
         except Exception as error:
+            self.is_left = True  # before the answer, as whoever gets that may ask again at once
             self.answers.put((False, NoAnswer('{} can not be mounted: {}'.format(self.fs, error))))
-            self.is_left = True
 
     def _answered(self, lib: Any) -> bool:
         todo = self.asked.get()

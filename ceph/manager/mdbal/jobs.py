@@ -133,8 +133,7 @@ class Work:
         hold, lines = programs.check(folder, os.path.join(folder, 'counted'), self.limit)
         empty = sum(1 for path in own if entries.get(path) == 0)
         self.record.held = lines[-1] + (', {} directories are empty'.format(empty) if empty else '')
-        self.record.not_held = [] if hold else [''.join(chr(it) if 31 < it < 127 else '?' for it in line.encode('latin-1'))
-                                                for line in lines[:-1]] or [lines[-1]]
+        self.record.not_held = [] if hold else lines[:-1]
 
     def check(self) -> str:
         folder = tempfile.mkdtemp(prefix=self.mgr.room())

@@ -157,11 +157,16 @@ def drive(what: str, text: str, options: List[str], host: Host) -> str:
                 continue
             made.stdin.write(host.safe_answer(line.rstrip('\n'), made.stdout) + '\n')
             made.stdin.flush()
-        raise Trouble('mdbal_drive: {}'.format(made.stderr.read().strip() or 'ended by itself'))
+        raise ended(made)
     except BrokenPipeError:
-        raise Trouble('mdbal_drive ended by itself')
+        raise ended(made)
     finally:
         end(made)
+
+
+def ended(made: Any) -> Trouble:
+    """Why mdbal_drive ended by itself."""
+    return Trouble('mdbal_drive: {}'.format(made.stderr.read().strip() or 'ended by itself'))
 
 
 def end(made: Any) -> None:

@@ -52,7 +52,7 @@ class Record:
     def take_plan(self, planned: Planned) -> None:
         told = planned.plan.told
         hottest = max((it['now'] for it in told['ranks']), default=0)
-        above = 100 * (hottest / told['bound'] - 1) if told['bound'] and not told['idle'] else 0.0
+        above = 0.0 if told['idle'] else 100 * (hottest / told['bound'] - 1)
         self.planned, self.above = planned, (self.above + [above])[-UNEVEN_PLANS:]
 
     def how_to_go_on(self) -> str:

@@ -9,13 +9,13 @@ MOST_LINES = 10  # of the detail of a health warning
 
 
 def ratios(planned: Planned) -> Dict[str, Any]:
-    """What a plan comes to. A file system without load has no ratios."""
+    """What a plan comes to. An idle file system, as one without load is, has no ratios."""
     told = planned.plan.told
     heats = [it['now'] for it in told['ranks']]
     mean = sum(heats) / max(len(heats), 1)
     found = {'id': planned.plan.id, 'age_seconds': int(time.time() - planned.time), 'proposed': planned.plan.is_proposed,
              'idle': told['idle'], 'pins_to_change': len(told['changes']), 'inodes_moved': told['inodes_moved']}  # type: Dict[str, Any]
-    if mean and not told['idle']:
+    if not told['idle']:
         found['greatest_to_mean'] = round(max(heats) / mean, 3)
         found['planned_to_mean'] = round(max(it['planned'] for it in told['ranks']) / mean, 3)
         found['bound_to_mean'] = round(told['bound'] / mean, 3)
@@ -40,8 +40,6 @@ def status(record: Record) -> Dict[str, Any]:
 def plan_line(plan: Dict[str, Any]) -> str:
     if plan['idle']:
         return 'idle: too little load to plan for'
-    if 'greatest_to_mean' not in plan:
-        return 'no load'
     found = 'the hottest rank is at {:.2f} of the mean'.format(plan['greatest_to_mean'])
     least = ', and no plan gets below {:.2f}'.format(plan['bound_to_mean'])
     if not plan['proposed']:
