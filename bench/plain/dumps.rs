@@ -106,7 +106,7 @@ fn add_loads(text: &[u8], found: &mut Vec<(Vec<u8>, u64)>) {
                 b"pop_me" => heat = own_heat(json),
                 _ => json.skip(),
             });
-            found.push((path, (heat * 1000.0) as u64));
+            found.push((path, (heat * 1000.0 + 0.5) as u64));
         }),
         _ => json.skip(),
     });
