@@ -1,16 +1,15 @@
 -- What is known of a file when some of its certificates are judged.
-use Rattle.std.proofs.Common.{◌≡◌, ◌≢◌, ◌∙◌, ◌↔◌, ℕ, ◌+◌, ◌<◌, ◌≤◌, List, [], ◌∷◌, ◌++◌, All, IsTrue}
-use Rattle.std.proofs.Common.{length, refl, sym, ap, subst, arith, append_assoc, append-nil, length-append, Option, Some, None, IfSome, string_bytes}
+use Rattle.std.proofs.Common.{◌≡◌, ◌≢◌, ◌∙◌, ℕ, ◌+◌, ◌<◌, ◌≤◌, List, [], ◌∷◌, ◌++◌, All}
+use Rattle.std.proofs.Common.{length, refl, sym, ap, subst, arith, append_assoc, append-nil, length-append, Option, Some, None, IfSome}
 use Rattle.std.specs.Io.KnownBytes.{Consumes, IsAtEnd, prepend_known}
 use Rattle.std.proofs.KnownBytes.{Consumes-trans}
-use Rattle.std.proofs.lemmas.List.{append_cancel_left}
 use Rattle.std.proofs.lemmas.List.Elements.{All-append, All-cons, All-head, All-nil, All-tail}
 use Rattle.mds_types.specs.Plan.{PlanData}
 use Rattle.mds_types.specs.Problem.{ProblemData}
 use Rattle.plan_text.specs.Text.{text, texts}
 use Rattle.plan_text.specs.Writable.{IsWritable}
 use Rattle.plan_text.specs.declared.certificate.Certificate.{Certificate}
-use Rattle.certificate_judge.specs.Judged.{AllBest, AllHold, AreAnswersFor, AreCertificates, AreTexts, HasBest, HaveAnswers, ProofsHold, Refuses}
+use Rattle.certificate_judge.specs.Judged.{AreAnswersFor, AreCertificates, AreTexts, HaveAnswers, ProofsHold, Refuses}
 use Rattle.certificate_judge.specs.Unjudged.{BeginsNone, IsFault}
 use Rattle.plan_text.specs.declared.read_error.ReadError.TheVariants.{Line, Memory}
 use Rattle.certificate_judge.specs.declared.judge_error.JudgeError.{JudgeError}

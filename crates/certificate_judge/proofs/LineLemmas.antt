@@ -1,5 +1,5 @@
 -- The program's command is of the simple kind of which `clap` says what its words mean.
-use Rattle.std.proofs.Common.{◌≡◌, ◌∙◌, ◌≢◌, true, [], refl, sym, ap, subst, inl, inr}
+use Rattle.std.proofs.Common.{◌≡◌, ◌∙◌, true, refl, sym, ap, subst, inl, inr}
 use Rattle.clap.specs.Words.{is_simple_and_free}
 use Rattle.clap.specs.Simple.{is_simple}
 use Rattle.clap.proofs.OnLiterals.{clap_on_literals}

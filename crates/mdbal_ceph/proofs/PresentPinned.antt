@@ -1,5 +1,5 @@
 -- What is pinned in the first of the hours that are planned for is what is held now.
-use Rattle.std.proofs.Common.{◌≡◌, ◌∙◌, ◌<◌, ◌++◌, ℕ, List, [], ◌∷◌, ap, arith, length, refl, subst, sym, slice_index}
+use Rattle.std.proofs.Common.{◌≡◌, ◌∙◌, ◌<◌, ◌++◌, ℕ, List, [], ◌∷◌, ap, arith, length, refl, subst}
 use Rattle.ceph_plan.specs.ChosenHours.{AreChosenHours}
 use Rattle.ceph_plan.specs.Packing.{IsPinnedHeat, pinned_in}
 use Rattle.ceph_plan.specs.declared.hours.Hour.{Hour}

@@ -1,5 +1,5 @@
 -- Texts that are said one after another.
-use Rattle.std.proofs.Common.{◌≡◌, ◌∙◌, ◌++◌, [], ℕ, List, Option, Some, None, append_assoc, ap}
+use Rattle.std.proofs.Common.{◌∙◌, ◌++◌, [], ℕ, List, Option, Some, None, append_assoc, ap}
 use Rattle.std.specs.Io.KnownBytes.{Appends}
 use Rattle.mdbal_ceph.specs.Messages.{SaysText}
 

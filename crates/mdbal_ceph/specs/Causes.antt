@@ -1,7 +1,6 @@
 -- Why a run has no result.
-use Rattle.std.specs.Prelude.{◌≡◌, ◌≢◌, ◌⊎◌, ◌<◌, ◌≤◌, ◌^◌, ⊤, ℕ, All, Bool, true, false, List, Option, Some, None}
-use Rattle.std.specs.Prelude.{Result, Vec, codes, is_some, length, map, string_bytes}
-use Rattle.std.specs.Global.{Global}
+use Rattle.std.specs.Prelude.{◌≡◌, ◌≢◌, ◌⊎◌, ◌<◌, ◌≤◌, ◌^◌, ⊤, ℕ, All, Bool, true, List, Option, Some, None}
+use Rattle.std.specs.Prelude.{codes, is_some, length, string_bytes}
 use Rattle.std.specs.List.{IsAmong}
 use Rattle.mds_types.specs.RankSet.{has_rank}
 use Rattle.ceph_dumps.specs.Balancer.{IsBalancer}

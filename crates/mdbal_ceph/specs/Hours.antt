@@ -1,5 +1,5 @@
 -- The hours that a plan is for: that of now, earlier ones, and made ones.
-use Rattle.std.specs.Prelude.{◌≡◌, ◌⊎◌, ◌<◌, ◌≤◌, ◌+◌, ◌-◌, ◌*◌, ◌++◌, ℕ, zero, suc, Bool, List, [], ◌∷◌}
+use Rattle.std.specs.Prelude.{◌≡◌, ◌⊎◌, ◌<◌, ◌+◌, ◌-◌, ◌*◌, ◌++◌, ℕ, zero, suc, Bool, List, [], ◌∷◌}
 use Rattle.std.specs.Prelude.{◌==◌, Option, Some, false}
 use Rattle.std.specs.Prelude.{Vec, drop, length, map, min, nat_lt, slice_get, slice_index, slice_index_or, take, true}
 use Rattle.std.specs.Prelude.{if◌then◌else◌}
@@ -19,7 +19,6 @@ use Rattle.ceph_plan.specs.ChosenHours.{AreChosenHours, AreThose}
 use Rattle.ceph_plan.specs.HourPlans.{IsHoursProposal}
 use Rattle.ceph_plan.specs.MadeHours.{AreMadeHours}
 use Rattle.ceph_plan.specs.Packing.{IsOneHour}
-use Rattle.ceph_plan.specs.declared.choice.Wanted.{Wanted}
 use Rattle.ceph_plan.specs.declared.for_hours.HoursProposal.{HoursProposal}
 use Rattle.ceph_plan.specs.declared.hours.Hour.{Hour}
 use Rattle.ceph_plan.specs.declared.made.MadeHour.{MadeHour}

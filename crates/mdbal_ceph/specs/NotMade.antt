@@ -19,11 +19,9 @@ use Rattle.ceph_pins.specs.Volumes.{is_unit}
 use Rattle.ceph_plan.specs.ChosenHours.{IsChoiceRefusal}
 use Rattle.ceph_plan.specs.HourPlans.{IsHoursRefusal}
 use Rattle.ceph_plan.specs.MadeHours.{IsMadeRefusal}
-use Rattle.ceph_plan.specs.declared.choice.Wanted.{Wanted}
 use Rattle.ceph_plan.specs.declared.hours.Hour.{Hour}
 use Rattle.ceph_plan.specs.declared.plan_error.PlanError.{PlanError}
 use Rattle.ceph_plan.specs.declared.proposal.OwnPins.{OwnPins}
-use Rattle.ceph_plan.specs.declared.row.PinChange.{PinChange}
 use Rattle.ceph_snapshot.specs.Hours.{AreHeatsThen}
 use Rattle.ceph_snapshot.specs.Policies.{dir_path_at}
 use Rattle.ceph_snapshot.specs.Rows.{AreRowsOf}
@@ -50,7 +48,6 @@ use Rattle.mdbal_ceph.specs.declared.no_result.FileFault.{FileFault}
 use Rattle.mdbal_ceph.specs.declared.no_result.FileFault.TheVariants as fault
 use Rattle.mdbal_ceph.specs.declared.no_result.NoPlan.{NoPlan}
 use Rattle.mdbal_ceph.specs.declared.no_result.NoPlan.TheVariants as no
-use Rattle.mdbal_ceph.specs.declared.no_result.PastFault.{PastFault}
 use Rattle.mdbal_ceph.specs.declared.no_result.PastFault.TheVariants as past_fault
 use Rattle.mdbal_ceph.specs.declared.no_result.NoResult.{NoResult}
 use Rattle.mdbal_ceph.specs.declared.no_result.NoResult.TheVariants as why

@@ -1,5 +1,5 @@
 -- The certificates of a session's board, or of none.
-use Rattle.std.proofs.Common.{◌≡◌, ℕ, All, Bool, List, [], Option, None, Some, Ok, Err, IfOk, IsErrOf}
+use Rattle.std.proofs.Common.{◌≡◌, ℕ, All, Bool, List, [], Option, None, Some, Ok, Err, IsErrOf}
 use Rattle.std.specs.Prelude.{IfSome}
 use Rattle.std.proofs.KnownBytes.{Appends-nil}
 use Rattle.std.proofs.lemmas.List.Elements.{All-nil}
@@ -13,9 +13,9 @@ use Rattle.script_engine.specs.Devices.{Reading}
 use Rattle.script_engine.specs.declared.driver.RunError.{RunError}
 use Rattle.script_engine.specs.declared.driver.RunError.TheVariants.{Memory, Read, Write}
 use Rattle.script_session.specs.Ending.{IsRunOf}
-use Rattle.script_session.specs.Proofs.{IsProved, certificates_at}
+use Rattle.script_session.specs.Proofs.{certificates_at}
 use Rattle.script_session.specs.Script.{IsKeptAt}
-use Rattle.script_session.specs.Session.{SessionData, beginning}
+use Rattle.script_session.specs.Session.{beginning}
 use Rattle.script_session.specs.declared.script.Ended.{Ended}
 
 pub if_known : {A : Type 0} (before : Option (List ℕ)) → A → IfSome before (λ bytes. A)

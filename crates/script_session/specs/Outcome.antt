@@ -1,5 +1,5 @@
 -- What a line of a script does, as a function of the session, where memory suffices.
-use Rattle.std.specs.Prelude.{ℕ, Bool, true, false, List, [], ◌∷◌, Option, Some, None, Result, Ok, Err}
+use Rattle.std.specs.Prelude.{ℕ, Bool, true, List, [], ◌∷◌, Option, Some, None, Result, Ok, Err}
 use Rattle.export_protocol.specs.declared.event.Reply.{Reply}
 use Rattle.script_engine.specs.Answers.{Answer}
 use Rattle.script_commands.specs.Commands as line

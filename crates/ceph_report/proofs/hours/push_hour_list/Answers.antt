@@ -1,4 +1,4 @@
-use Rattle.std.proofs.Common.{◌≡◌, ℕ, List, arith, length, slice_get}
+use Rattle.std.proofs.Common.{◌≡◌, arith, length, slice_get}
 use Rattle.std.proofs.lemmas.Result.{on_ok_weaker}
 use Rattle.ceph_report.proofs.Lines.{below_none, below_more, below_framed}
 use Rattle.ceph_report.specs.Hours.{hour_list, hour_member}

@@ -1,4 +1,4 @@
-use Rattle.std.proofs.Common.{◌≡◌, ℕ, List, arith, length, slice_get}
+use Rattle.std.proofs.Common.{◌≡◌, arith, length, slice_get}
 use Rattle.ceph_report.proofs.Lines.{below_none, below_more, below_same}
 use Rattle.ceph_report.specs.Hours.{hour_line_at, hour_lines}
 use Rattle.ceph_report.proofs.hours.push_hours.Goals as goal

@@ -1,5 +1,5 @@
-use Rattle.std.proofs.Common.{◌≡◌, ℕ, List, arith, length, slice_get}
-use Rattle.ceph_report.specs.Json.{change_members, one_member}
+use Rattle.std.proofs.Common.{slice_get}
+use Rattle.ceph_report.specs.Json.{one_member}
 use Rattle.ceph_report.proofs.Lines.{below_more, below_none}
 use Rattle.ceph_report.proofs.json.push_changes.Goals as goal
 

@@ -1,4 +1,4 @@
-use Rattle.std.proofs.Common.{◌≡◌, ◌<◌, ◌≤◌, ◌+◌, ◌-◌, ◌*◌, ◌/◌, ◌==◌, ℕ, false, min, arith}
+use Rattle.std.proofs.Common.{◌≡◌, ◌<◌, ◌≤◌, ◌+◌, ◌-◌, ◌*◌, ◌==◌, ℕ, false, min, arith}
 use Rattle.std.proofs.Math.Nat.{lt-mul-div-succ, mul-add}
 use Rattle.std.proofs.lemmas.Bool.{ne_eqb}
 use Rattle.ceph_snapshot.specs.Holding.{most_heat}

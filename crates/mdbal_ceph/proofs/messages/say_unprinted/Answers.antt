@@ -1,4 +1,4 @@
-use Rattle.std.proofs.Common.{◌++◌, ℕ, List, codes}
+use Rattle.std.proofs.Common.{ℕ, List, codes}
 use Rattle.mdbal_ceph.proofs.Said.{appends_both}
 use Rattle.mdbal_ceph.proofs.messages.say_unprinted.Goals as goal
 

@@ -1,4 +1,4 @@
-use Rattle.std.proofs.Common.{◌≡◌, ◌++◌, false, true, List, ap, refl, subst, sym, ◌∙◌}
+use Rattle.std.proofs.Common.{◌++◌, false, true, List, ap, refl, subst, sym, ◌∙◌}
 use Rattle.phased_board.specs.Going.{WentOnWithStops}
 use Rattle.phased_board.specs.Outcomes.{AreOutcomes}
 use Rattle.phased_board.specs.Stops.{AreStopped, ranks_of}

@@ -1,4 +1,4 @@
-use Rattle.std.proofs.Common.{◌≡◌, ◌<◌, ◌+◌, ℕ, List, [], ◌∷◌, ◌++◌, Bor, Ok, map, take, drop, ap, sym, ◌∙◌, arith}
+use Rattle.std.proofs.Common.{◌+◌, ℕ, List, Bor, Ok, map, take, drop, ap, sym, ◌∙◌, arith}
 use Rattle.std.proofs.lemmas.Result.{err_from_is_err_and}
 use Rattle.std.proofs.lemmas.List.{map_more}
 use Rattle.script_board.specs.Steps.{find_all}

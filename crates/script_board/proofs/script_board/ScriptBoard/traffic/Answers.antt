@@ -1,4 +1,4 @@
-use Rattle.std.proofs.Common.{◌≡◌, ◌⊎◌, ◌++◌, true, All, List, Vec, Global, ap, arith, length, map, refl, subst, sym, ◌∙◌}
+use Rattle.std.proofs.Common.{◌≡◌, ◌++◌, true, All, List, Vec, Global, ap, arith, length, map, refl, subst, sym, ◌∙◌}
 use Rattle.std.proofs.lemmas.List.{length-map}
 use Rattle.authority_map.specs.Operations.{Operation}
 use Rattle.phased_board.specs.Going.{WentOnWithStops}
