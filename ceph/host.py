@@ -80,6 +80,13 @@ class Host:
         root = found[0].get("client_metadata", {}).get("root", "/")
         return "" if root == "/" else f"{self.mount} is not the root of {self.fs}: its client says {root}"
 
+    def not_moving(self) -> str:
+        """Why pins would move nothing, not even when the option is true again; empty where nothing says so."""
+        ranks = self.ceph("fs", "get", self.fs, "-f", "json")["mdsmap"]["in"]
+        found = self.side_by_side(*(["tell", f"mds.{self.fs}:{rank}", "config", "get", "mds_bal_export_pin"] for rank in ranks))
+        still = [rank for rank, it in zip(ranks, found) if it["mds_bal_export_pin"] != "true"]
+        return f"rank {still[0]} does not move pinned directories (mds_bal_export_pin)" if still else ""
+
     def is_scrubbed(self) -> bool:
         return "no active scrubs" not in self.ceph("tell", f"mds.{self.fs}:0", "scrub", "status")["status"]
 

@@ -77,6 +77,7 @@ class Cluster:
         self.keeps = True
         self.has_monitors = True
         self.scrubs = False
+        self.obeys = {}       # type: Dict[int, str]  # whether a rank moves what is pinned, if it was said
         self.served = {}      # type: Dict[str, int]
         self.refuse = set()   # type: Set[bytes]
         self.hangs = None     # type: Optional[int]  # a rank
@@ -119,7 +120,8 @@ class Cluster:
         if what == 'scrub status':
             return json.dumps({'status': 'scrub active' if self.scrubs else 'no active scrubs running', 'scrubs': {}}).encode()
         if what == 'config get':
-            return json.dumps({'mds_bal_interval': self.interval}).encode()
+            options = {'mds_bal_interval': self.interval, 'mds_bal_export_pin': self.obeys.get(rank, 'true')}
+            return json.dumps({command['var']: options[command['var']]}).encode()
         return json.dumps({'mds_mem': {'dir': self.cached}}).encode()
 
 

@@ -110,9 +110,15 @@ class Ranks(OnLibrary):
         self.assertEqual(self.cluster.why_not(), "")
         self.stored.checks["MDS_TRIM"] = {"severity": "HEALTH_WARN"}
         self.assertEqual(self.cluster.why_not(), "")
+        for value in ("false", "0", ""):  # nothing but true is known to be on
+            self.stored.obeys[2] = value
+            self.assertEqual(self.cluster.why_not(), "rank 2 does not move pinned directories (mds_bal_export_pin)")
+        self.stored.obeys[2] = "true"
+        self.assertEqual(self.cluster.why_not(), "")
+        self.stored.obeys[1] = "false"
         self.stored.scrubs = True
         self.assertEqual(self.cluster.why_not(), "a scrub is running")
-        self.assertEqual([it for it in self.stored.asked if "scrub" in it], ["0 scrub status"] * 3)  # rank 0 knows of all
+        self.assertEqual([it for it in self.stored.asked if "scrub" in it], ["0 scrub status"] * 7)  # rank 0 knows of all
         self.stored.checks["MDS_SLOW_REQUEST"] = {"severity": "HEALTH_WARN"}
         self.assertEqual(self.cluster.why_not(), "the ranks have slow requests (MDS_SLOW_REQUEST)")
         self.daemons[2]["state"] = "up:replay"

@@ -255,12 +255,32 @@ class Endpoints(OnModule):
         made.use(ports[0])
         self.assertEqual(self.get(ports[0]).status, 200)
 
-    def test_port_that_is_taken_is_said_once(self) -> None:
-        with socket.socket() as other:
+    def test_port_that_is_taken_is_said_once_and_tried_each_minute(self) -> None:
+        with socket.socket() as other, unittest.mock.patch("mdbal.endpoint.time.monotonic") as now:
+            now.return_value = 1000.0
             other.bind(("", 0))
             other.listen()
             port, made = int(other.getsockname()[1]), Endpoint(lambda: "text\n")
+            self.addCleanup(lambda: made.use(0))
             self.assertRaises(OSError, made.use, port)
+            for seconds in (0, 59, 60, 119):  # the try after 60 seconds finds it taken, too
+                now.return_value = 1000.0 + seconds
+                made.use(port)
+            other.close()
             made.use(port)
+            self.assertIsNone(made.server)
+            now.return_value = 1120.0
+            made.use(port)
+        self.assertEqual(self.get(port).status, 200)
         made.use(0)
         self.assertEqual((made.server, made.port), (None, 0))
+
+    def test_port_that_is_taken_ends_the_one_before(self) -> None:
+        made = Endpoint(lambda: "text\n")
+        self.addCleanup(lambda: made.use(0))
+        made.use(self.port())
+        with socket.socket() as other:
+            other.bind(("", 0))
+            other.listen()
+            self.assertRaises(OSError, made.use, int(other.getsockname()[1]))
+        self.assertIsNone(made.server)

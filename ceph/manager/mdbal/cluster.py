@@ -87,6 +87,10 @@ class Cluster:
         """The same, read. A character is a byte of a name."""
         return json.loads(self.tell(whom, prefix, **more).decode('latin-1'))
 
+    def option(self, rank: int, name: str) -> str:
+        """The value of an option of Ceph that a rank has."""
+        return str(self.told(rank, 'config get', var=name)[name])
+
     def roots(self, rank: int) -> Tuple[bytes, List[Root]]:
         dump = self.tell(rank, 'get subtrees')
         found = json.loads(dump.decode('latin-1'))
@@ -106,7 +110,7 @@ class Cluster:
 
     def balancer(self) -> Tuple[int, Optional[bool]]:
         """The longest interval in seconds at which a rank balances by itself, and the flag balance_automate of Ceph 18 and later."""
-        seconds = max(int(float(self.told(rank, 'config get', var='mds_bal_interval')['mds_bal_interval'])) for rank in self.ranks())
+        seconds = max(int(float(self.option(rank, 'mds_bal_interval'))) for rank in self.ranks())
         return seconds, self.mds_map().get('flags_state', {}).get('balance_automate')
 
     def is_balancer_on(self) -> bool:
@@ -118,13 +122,16 @@ class Cluster:
         if not self.mgr.have_mon_connection():
             return 'the monitors do not answer'
         try:
-            self.ranks()
+            ranks = self.ranks()
         except Trouble as trouble:
             return str(trouble)
         if 'MDS_SLOW_REQUEST' in self.warnings():
             return 'the ranks have slow requests (MDS_SLOW_REQUEST)'
         if b'no active scrubs' not in self.tell(0, 'scrub status'):
             return 'a scrub is running'
+        for rank in ranks:  # what is pinned meanwhile does not move when the option is true again
+            if self.option(rank, 'mds_bal_export_pin') != 'true':
+                return 'rank {} does not move pinned directories (mds_bal_export_pin)'.format(rank)
         return ''
 
     # Directories
