@@ -238,7 +238,8 @@ class Endpoints(OnModule):
         before = {it.ident for it in threading.enumerate()}
         made.use(ports[0])
         server = made.server
-        self.assertEqual([(it.name, it.daemon) for it in threading.enumerate() if it.ident not in before], [("mdbal-metrics", True)])
+        threads = [it for it in threading.enumerate() if it.ident not in before]
+        self.assertEqual([(it.name, it.daemon) for it in threads], [("mdbal-metrics", True)])
         made.use(ports[0])
         self.assertIs(made.server, server)
         with unittest.mock.patch.object(sys.stderr, "write") as written:
@@ -250,6 +251,8 @@ class Endpoints(OnModule):
         self.assertEqual(self.get(ports[1]).status, 200)
         made.use(0)
         self.assertEqual((made.server, made.port), (None, 0))
+        threads[0].join(60)
+        self.assertFalse(threads[0].is_alive())
         for port in ports:
             self.assertRaises(OSError, self.get, port)
         made.use(ports[0])
