@@ -77,18 +77,19 @@ class Driven(Working):
             with self.assertRaises(Trouble) as raised:
                 self.work.drive("set", TEXT)
             more = " (lab is away)" if notes else ""
-            self.assertEqual(str(raised.exception), f"set {NAME}: {why}; {how}{more}")
+            self.assertEqual((str(raised.exception), isinstance(raised.exception, Stop)), (f"set {NAME}: {why}; {how}{more}", isinstance(ended, Stop)))
             self.assertEqual((self.manager().records["lab"].state.ended, self.record().stopped), (kept, f"{why}; {how}"))
             self.assertEqual(self.module.events[-1], ("progress", "complete", "mdbal-lab"))
         self.checks.assert_not_called()
 
     def test_run_that_changed_no_pin(self) -> None:
         for ended, notes, why in (("stopped refused", [("note", "refused the store is full")], "stopped refused (the store is full)"),
+                                  (Stop("it was turned off"), [], "stopped it was turned off"),
                                   (Trouble("mdbal_drive ended by itself"), [], "stopped mdbal_drive ended by itself")):
             self.steps, self.ended = notes, ended
             with self.assertRaises(Trouble) as raised:
                 self.work.drive("set", TEXT)
-            self.assertEqual(str(raised.exception), f"set {NAME}: {why}, and no pin was changed")
+            self.assertEqual((str(raised.exception), isinstance(raised.exception, Stop)), (f"set {NAME}: {why}, and no pin was changed", isinstance(ended, Stop)))
             self.assertEqual((self.record().state.what, self.cluster.kept), ("", {}))
             self.assertEqual(self.module.events[-1], ("progress", "complete", "mdbal-lab"))
             self.assertIsNotNone(self.record().planned)

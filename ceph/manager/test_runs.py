@@ -406,7 +406,8 @@ class Rounds(OnSample):
         self.do("on")
         self.cluster.at_set = lambda path: self.module.off("lab") if len(self.cluster.sets) == 2 else None
         self.assertIn("it was turned off", self.do("round"))
-        self.assertEqual(len(self.cluster.sets), 3)
+        self.assertEqual((len(self.cluster.sets), self.module.health), (3, {}))
+        self.assertIn("  stopped: stopped it was turned off; up to ", self.module.status("lab")[1])
         self.do("off")
         self.do("rollback")
         self.assertEqual(self.pins(), {})

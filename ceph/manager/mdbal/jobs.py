@@ -3,7 +3,7 @@ import os
 import shutil
 import tempfile
 import time
-from typing import Any, Dict, List
+from typing import Any, Dict, List, Type
 
 from . import programs
 from .cluster import Cluster
@@ -210,19 +210,20 @@ class Work:
         for name, word in (('batch', '--batch-inodes'), ('poll', '--poll'), ('wait', '--longest-wait')):
             options += [word, str(int(self.mgr.get_module_option(name)))]
         run = Run(self, what, text.count('\nchange '))
+        kind = Trouble  # type: Type[Trouble]
         try:
             ended = programs.drive(what, text, options, Host(self.cluster, self.rest_of_run, run.store, run.note))
         except Trouble as trouble:
             if self.mgr.is_ending.is_set():
                 raise  # another manager finds that it did not end
-            ended = 'stopped {}'.format(trouble)
+            ended, kind = 'stopped {}'.format(trouble), Stop if isinstance(trouble, Stop) else Trouble
         finally:
             self.mgr.progress(record.name, None)
         if not run.is_stored:
-            raise Trouble('{} {}: {}, and no pin was changed'.format(what, plan_id, ended + run.why))
+            raise kind('{} {}: {}, and no pin was changed'.format(what, plan_id, ended + run.why))
         run.end(ended)
         if ended != 'done':
-            raise Trouble('{} {}: {}'.format(what, plan_id, record.stopped + run.why))
+            raise kind('{} {}: {}'.format(what, plan_id, record.stopped + run.why))
         return '{} {}: {} of {} changes; {}'.format(what, plan_id, run.changed, run.of, self.wait_until_held())
 
     def wait_until_held(self) -> str:
