@@ -41,7 +41,7 @@ class OnModule(OnSample):
     def take_plan(self, text: str = TEXT, ago: float = 0, is_proposed: bool = True) -> None:
         told = {"ranks": [], "bound": 0, "idle": True, "changes": [{}, {}], "inodes_moved": 0}
         word = Cluster(self.module, "lab", Direct(None)).word()  # type: ignore[arg-type]
-        self.record().planned = Planned(Plan(id_of(text), text, is_proposed, told, "report\nwhy\n", HOUR), time.time() - ago, word)
+        self.record().planned = Planned(Plan(id_of(text), text, is_proposed, told, "report\nwhy\n", HOUR), time.time() - ago, word, {})
 
 
 class Working(OnModule):

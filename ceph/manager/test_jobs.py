@@ -1,6 +1,7 @@
 """Jobs, with the programs played: how they wait, what they plan and check, and what they refuse."""
 import os
 import tempfile
+import time
 import unittest.mock
 from typing import Any, Dict, List
 
@@ -101,6 +102,7 @@ class Plans(Working):
         self.stored(marked(1, 1).replace("/w/p05", "/w/p05\\012"))
         self.options.update(hours=9, made=4, samples=2, pause=4, most_directories=1000, program_limit=70)
         self.work = Work(self.module, self.record(), self.work.cluster)
+        self.cluster.directories[b"/w"].pin = 2
         made, paths_of = self.play_plan(), programs.paths_of
         self.now = 900.0
         self.assertEqual(self.work.plan(), f"plan {NAME}: 2 pins to change")
@@ -111,6 +113,7 @@ class Plans(Working):
         paths_of.assert_called_once_with(folder, f"{folder}/own", 70.0)  # type: ignore[attr-defined]
         planned = self.record().planned
         self.assertEqual((planned.plan.text, planned.time, planned.word, self.record().above), (TEXT, NOW, self.work.cluster.word(), [100.0]))
+        self.assertEqual(planned.rules, {b"/w": 2})
         self.assertEqual(unpacked(self.cluster.kept[f"fs.7.hour.{NOW}"]), HOUR)
         self.assertEqual((self.work.recorded, os.listdir(self.room)), (904.0, []))
         self.assertEqual(self.said, ["reading the ranks", "reading directories, 0 of 3", "planning"])
@@ -277,12 +280,16 @@ class Refusals(Working):
         self.assertEqual(self.work.rollback(), "driven")
         self.driven.assert_called_once_with("restore", marked(1, 0))
 
-    def test_round(self) -> None:
+    def play_round(self, is_proposed: bool = True, gain: float = 50.0) -> None:
         def plan() -> str:
-            self.take_plan(is_proposed=proposed)
+            self.take_plan(is_proposed=is_proposed)
             return "why"
         self.patch(self.work, "plan", plan)
+        self.patch(Plan, "gain", lambda plan: gain)
+
+    def test_round(self) -> None:
         for proposed, said, count in ((False, "why", 0), (True, "driven", 1)):
+            self.play_round(proposed)
             self.assertEqual((self.work.round(), self.driven.call_count), (said, count))
         self.driven.assert_called_once_with("set", TEXT)
         self.record().not_held, self.record().held = ["/a"], "1 of 2 pins hold"
@@ -292,6 +299,39 @@ class Refusals(Working):
         self.record().planned, self.cluster.scrubs = None, True
         self.refused("a scrub is running", self.work.round)
         self.assertIsNone(self.record().planned)
+
+    def test_small_gain_has_to_show_twice(self) -> None:
+        self.options["least_gain"] = 6
+        again = self.patch(self.work, "gain_again", unittest.mock.Mock())
+        for gain, second, is_set, asks in ((20.0, None, True, 0), (19.9, 6.0, True, 1), (19.9, 5.9, False, 1), (6.0, -3.0, False, 1)):
+            self.play_round(gain=gain)
+            self.driven.reset_mock()
+            again.reset_mock()
+            again.return_value = second
+            left = f"plan {NAME} gains {max(second or 0, 0):.0f} % in the heat that was read after it, and is left"
+            self.assertEqual((self.work.round(), self.driven.call_count, again.call_count), ("driven" if is_set else left, is_set, asks))
+            self.assertEqual(again.call_args, unittest.mock.call(self.record().planned) if asks else None)
+            self.assertIsNotNone(self.record().planned)
+
+    def test_round_at_a_time_at_which_none_may_set_pins(self) -> None:
+        again = self.patch(self.work, "gain_again", unittest.mock.Mock(return_value=50))
+        self.play_round(gain=10)
+        asked = []  # type: List[Any]
+        self.patch(jobs, "may_act", lambda mgr, now: bool(asked.append((mgr, now))))
+        self.assertEqual(self.work.round(), "why, which no round does at this time")
+        self.assertEqual((asked, self.driven.call_count, again.call_count), ([(self.module, time.localtime(NOW))], 0, 0))
+        self.take_plan()
+        self.work.apply(NAME)  # a person may
+        self.driven.assert_called_once_with("set", TEXT)
+
+    def test_gain_in_the_heat_of_now(self) -> None:
+        self.patch(self.work.cluster, "subtree_ranks", lambda: {b"": 0, b"/w": 0})
+        self.played("hour", b"mdbal-hour 1\nlab 0-1\n0 0 0\n60 /w/p06\n40 /w/p05/a\n")
+        for rules, gained in (({}, 40.0), ({b"/w/p05/a": 2}, 0.0), ({b"/w/p06": 0}, 40.0)):  # a change comes after what was there
+            self.take_plan()
+            self.record().planned = self.record().planned._replace(rules=rules)
+            self.assertEqual(self.work.gain_again(self.record().planned), gained)
+        self.assertEqual((list(self.cluster.kept), os.listdir(self.room), set(self.said)), ([f"fs.7.hour.{NOW}"], [], {"reading the ranks"}))
 
     def test_how_long_pins_of_the_last_run_may_come_to_hold(self) -> None:
         self.options["wait"] = 100

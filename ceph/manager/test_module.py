@@ -35,7 +35,8 @@ class Options(OnModule):
                  "most_pins": ("uint", 1000, 1, 65535), "most_inodes": ("uint", 0), "leave": ("str", ""), "mask": ("str", ""),
                  "batch": ("uint", 100000, 1), "poll": ("secs", 5, 1), "wait": ("secs", 600, 1), "plan_age": ("secs", 900, 1),
                  "program_limit": ("secs", 300, 1), "call_limit": ("secs", 60, 1), "most_directories": ("uint", 200000), "warn_percent": ("uint", 0),
-                 "metrics_port": ("uint", 0, None, 65535)}
+                 "begin_time": ("str", "0000"), "end_time": ("str", "2400"), "begin_weekday": ("uint", 0, None, 7),
+                 "end_weekday": ("uint", 7, None, 7), "metrics_port": ("uint", 0, None, 65535)}
         for it in Module.MODULE_OPTIONS:
             found = {name: value for name, value in it.items() if name != "desc"}
             wanted = dict(zip(("type", "default", "min", "max"), words.pop(it["name"])))
@@ -150,7 +151,7 @@ class Commands(OnModule):
         self.assertEqual(self.module.apply("lab", NAME), BEGUN)
         self.assertEqual(self.module.apply("lab", "other")[0], -errno.ENOENT)
         self.assertEqual(self.module.apply("lab", id_of(""))[0], -errno.ENOENT)
-        self.record().planned = Planned(Plan("other", "", False, {}, "", b""), 0, "")
+        self.record().planned = Planned(Plan("other", "", False, {}, "", b""), 0, "", {})
         self.assertEqual(self.module.apply("lab", NAME), BEGUN)
         self.record().state.text = ""
         self.assertEqual(self.module.apply("lab", id_of(""))[0], -errno.ENOENT)

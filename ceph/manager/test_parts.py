@@ -3,6 +3,7 @@ import hashlib
 import json
 import os
 import tempfile
+import time
 import unittest
 import unittest.mock
 from typing import Any, List, Optional
@@ -12,7 +13,8 @@ from on_sample import SAMPLE
 
 from mdbal import hours
 from mdbal.hours import HEAD, HOUR, NEWEST, WEEK, Hours, due, packed, unpacked
-from mdbal.rounds import Watch, served
+from mdbal.module import Module
+from mdbal.rounds import Watch, is_within, may_act, served
 from mdbal.state import CHUNK, State, Store
 from mdbal.texts import Change, PlanText, Trouble, escaped, id_of, listed, own_pins, pins_list, read_plan, unescaped
 
@@ -245,6 +247,47 @@ class Stores(unittest.TestCase):
             self.assertRaisesRegex(Trouble, "^the monitors did not store the state$", Store(self.mgr, is_kept).save, 7, state)
             self.assertEqual(asked[-1], refused)
         self.assertIn("fs.7.text.1.0", self.kept)  # the old text stays while the head may still name it
+
+
+class Times(unittest.TestCase):
+    """When rounds may set pins."""
+
+    def setUp(self) -> None:
+        stand_in.MgrModule.cluster = stand_in.Cluster(SAMPLE)
+        self.mgr = Module("mdbal", 0, 0)  # type: Any
+
+    def may_act(self, when: str, **options: Any) -> bool:
+        """Whether they may at a time of this month of December, in which the 6th is a Sunday."""
+        self.mgr.options.update(options)
+        return may_act(self.mgr, time.strptime("2026-12-" + when, "%Y-%m-%d %H:%M"))
+
+    def test_within(self) -> None:
+        for begin, end, inside, outside in ((2, 4, (2, 3), (1, 4, 5)), (4, 2, (4, 5, 0, 1), (2, 3)), (3, 3, (0, 3, 6), ())):
+            for now in inside + outside:
+                self.assertIs(is_within(begin, now, end), now in inside, (begin, now, end))
+
+    def test_always_by_default(self) -> None:
+        for when in ("05 00:00", "06 23:59", "07 12:00"):
+            self.assertTrue(self.may_act(when))
+
+    def test_times_of_a_day(self) -> None:
+        for when, night, day in (("06 21:59", False, True), ("06 22:00", True, False), ("06 05:59", True, False), ("06 06:00", False, True)):
+            self.assertIs(self.may_act(when, begin_time="2200", end_time="0600"), night)
+            self.assertIs(self.may_act(when, begin_time="0600", end_time="2200"), day)
+
+    def test_days_of_a_week(self) -> None:
+        for day, work, weekend in (("05", False, True), ("06", False, True), ("07", True, False), ("11", True, False)):
+            self.assertIs(self.may_act(day + " 12:00", begin_weekday=1, end_weekday=6), work)
+            self.assertIs(self.may_act(day + " 12:00", begin_weekday=6, end_weekday=1), weekend)
+        for begin, end, is_so in ((7, 1, True), (0, 1, True), (1, 7, False), (1, 0, False)):
+            self.assertIs(self.may_act("06 12:00", begin_weekday=begin, end_weekday=end), is_so)
+        self.assertFalse(self.may_act("07 12:00", begin_weekday=1, end_weekday=2, begin_time="1300"))
+
+    def test_what_is_no_time_of_a_day(self) -> None:
+        for value in ("", "7:30", "730", "2401", "1260", "07300", "x"):
+            for name in ("begin_time", "end_time"):
+                with self.assertRaisesRegex(Trouble, f"^mgr/mdbal/{name} is no time of a day as 0730: {value}$"):
+                    self.may_act("06 12:00", **{"begin_time": "0000", "end_time": "2400", name: value})
 
 
 class Watches(unittest.TestCase):

@@ -4,9 +4,14 @@ import queue
 import threading
 import time
 import unittest.mock
+from typing import Any, Dict
 
-from on_sample import OnSample
+import stand_in
+from on_sample import Direct, OnSample
 
+from mdbal import jobs, programs
+from mdbal.cluster import Cluster
+from mdbal.gain import after, percent
 from mdbal.hours import unpacked
 from mdbal.module import Job
 from mdbal.state import State
@@ -341,6 +346,10 @@ class Ends(OnSample):
 class Rounds(OnSample):
     # rounds
 
+    def roots(self) -> Dict[bytes, int]:
+        """The rank of each root of a subtree."""
+        return Cluster(self.module, "lab", Direct(stand_in.Library(self.cluster))).subtree_ranks()  # type: ignore[arg-type]
+
     def test_on_makes_rounds(self) -> None:
         self.do("on")
         self.assertTrue(self.manager().records["lab"].state.on)
@@ -378,6 +387,31 @@ class Rounds(OnSample):
         self.cluster.sets.clear()
         self.assertRegex(self.do("round"), r"^round: no pin is changed while directories of the last run move")
         self.assertEqual(self.cluster.sets, [])
+
+    def test_small_gain_has_to_show_in_later_heat(self) -> None:
+        warm, plan = self.cluster.loads, programs.plan
+        cold = {rank: [b'{"dirfrags":[]}'] for rank in warm}
+        self.do("on")
+        for later, said, status in ((cold, r"^round: plan \w+ gains 0 % in the heat that was read after it, and is left ", 3), (warm, "^round: set ", 0)):
+            def planned(*words: Any, later: Any = later) -> Any:
+                found = plan(*words)
+                self.cluster.loads = later
+                return found
+            with unittest.mock.patch.object(jobs, "SURE", 101), unittest.mock.patch.object(programs, "plan", planned):
+                self.assertRegex(self.do("round") + " ", said)
+            self.assertEqual((self.pins() != {}, self.module.health), (status == 0, {}))
+            self.assertIn(f'mdbal_round_status{{fs="lab"}} {status}', self.module.metrics()[1])
+            self.cluster.loads = warm
+
+    def test_gain_in_the_same_heat_is_that_of_the_plan(self) -> None:
+        self.module.options.update(hours=1, made=0)
+        for count in (1, 2):  # without pins of the program, and with them
+            self.planned()
+            planned, roots = self.record().planned, self.roots()
+            gained = percent(planned.plan.hour, roots, after(planned.rules, read_plan(planned.plan.text).changes))
+            self.assertAlmostEqual(gained, planned.plan.gain(), 2)
+            self.do("apply", planned.plan.id)
+            self.module.options.update(least_gain=0, keep=0, mask="0x3")
 
     def test_round_while_subtrees_move_is_no_warning(self) -> None:
         self.do("on")

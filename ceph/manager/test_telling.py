@@ -24,7 +24,7 @@ def planned(ranks: Tuple[Tuple[int, int, int], ...] = RANKS, **more: Any) -> Pla
     told = {"ranks": [{"rank": rank, "now": now, "planned": then} for rank, now, then in ranks], "bound": 1501, "idle": False,
             "changes": [{}, {}, {}], "inodes_moved": 41}  # type: Dict[str, Any]
     is_proposed = more.pop("is_proposed", True)
-    return Planned(Plan(NAME, TEXT, is_proposed, dict(told, **more), "the report\nwhy\n", b""), NOW - 12, "the ranks")
+    return Planned(Plan(NAME, TEXT, is_proposed, dict(told, **more), "the report\nwhy\n", b""), NOW - 12, "the ranks", {})
 
 
 def state(**more: Any) -> State:

@@ -4,7 +4,7 @@ import os
 from typing import Callable, Dict, Iterator, List
 
 from .cluster import Cluster, Facts
-from .texts import Refused, Trouble, listed
+from .texts import NO_PIN, Refused, Trouble, listed
 
 TRIES = 3
 
@@ -19,6 +19,7 @@ class Collector:
 
     def __init__(self, cluster: Cluster, folder: str, rest: Callable[[float], None], say: Callable[[str], None]) -> None:
         self.cluster, self.folder, self.rest, self.say = cluster, folder, rest, say
+        self.rules = {}  # type: Dict[bytes, int]  # what decides where directories are, of those that were listed
 
     def dumps(self, samples: int, pause: float, most_directories: int) -> None:
         """What the ranks print. With 0 samples no rank is asked for its heat. Where something moves meanwhile, all is taken again."""
@@ -67,6 +68,7 @@ class Collector:
             facts = self.cluster.facts(path or b'/')
             if facts is not None:
                 found[path] = facts
+        self.rules = rules_of(found, self.cluster.ranks())
         own = own_entries({path: max(it.rentries - 1, 0) for path, it in found.items()})
         with open(os.path.join(self.folder, 'dirs'), 'wb') as dirs:
             for name, values in (('entries', {path: str(count) for path, count in own.items()}),
@@ -79,6 +81,16 @@ class Collector:
 
     def end(self) -> None:
         write(self.folder, 'complete', '{} {}\n'.format(self.cluster.fs, self.cluster.fsid()).encode())
+
+
+def rules_of(found: Dict[bytes, Facts], ranks: List[int]) -> Dict[bytes, int]:
+    """The pins by path. With NO_PIN directories stay where they are: by a policy of Ceph, or by a pin to a rank that is not there."""
+    rules = {}
+    for path, it in found.items():
+        is_left = bool((it.distributed + it.random).strip('0.'))
+        if is_left or int(it.pin) != NO_PIN:
+            rules[path] = int(it.pin) if int(it.pin) in ranks and not is_left else NO_PIN
+    return rules
 
 
 def own_entries(below: Dict[bytes, int]) -> Dict[bytes, int]:

@@ -3,15 +3,17 @@ import os
 import shutil
 import tempfile
 import time
-from typing import Any, Dict, List, Type
+from typing import Any, Callable, Dict, List, Type
 
 from . import programs
 from .cluster import Cluster
 from .collect import Collector, write
+from .gain import SURE, after, percent
 from .hours import Hours
 from .once import Trial, why_not
 from .programs import Host, Stop
 from .record import Planned, Record
+from .rounds import may_act
 from .state import SLOW, TURNED_OFF, State
 from .texts import Refused, Trouble, id_of, listed, own_pins, pins_list, read_plan, unescaped
 
@@ -55,22 +57,29 @@ class Work:
         collector.dumps(int(self.mgr.get_module_option('samples')), float(self.mgr.get_module_option('pause')),
                         int(self.mgr.get_module_option('most_directories')))
 
-    def record_hour(self) -> None:
-        """Records the heat, for later plans. What goes wrong with that stops no run, but a rank that does not answer."""
+    def record_of_heat(self, say: Callable[[str], None]) -> bytes:
+        """Reads the heat, and records it for later plans."""
         folder = ''
         try:
             folder = tempfile.mkdtemp(prefix=self.mgr.room())
-            collector = Collector(self.cluster, folder, self.rest, lambda doing: None)
+            collector = Collector(self.cluster, folder, self.rest, say)
             self.read_heat(collector)
             collector.end()
-            Hours(self.mgr, self.record.number).keep(programs.hour(folder, self.limit), int(time.time()))
+            record = programs.hour(folder, self.limit)
+            Hours(self.mgr, self.record.number).keep(record, int(time.time()))
+            return record
+        finally:
+            self.recorded = time.monotonic()
+            shutil.rmtree(folder, ignore_errors=True)
+
+    def record_hour(self) -> None:
+        """Records the heat while a run waits. What goes wrong with that stops no run, but a rank that does not answer."""
+        try:
+            self.record_of_heat(lambda doing: None)
         except Stop:
             raise
         except (Trouble, OSError, ValueError, KeyError) as why:
             self.mgr.log.info('%s: the heat is not recorded: %s', self.record.name, why)
-        finally:
-            self.recorded = time.monotonic()
-            shutil.rmtree(folder, ignore_errors=True)
 
     def own(self) -> Dict[bytes, int]:
         """The pins that are there by this program."""
@@ -117,7 +126,7 @@ class Work:
             self.recorded = time.monotonic()
         finally:
             shutil.rmtree(folder, ignore_errors=True)
-        self.record.take_plan(Planned(plan, time.time(), self.cluster.word()))
+        self.record.take_plan(Planned(plan, time.time(), self.cluster.word(), collector.rules))
         if not plan.is_proposed:
             return plan.why_not()
         return 'plan {}: {} pins to change'.format(plan.id, len(plan.told['changes']))
@@ -257,7 +266,21 @@ class Work:
         assert planned
         if self.is_moving():
             return 'no pin is changed while directories of the last run move: {}'.format(self.record.held)
-        return self.apply(planned.plan.id) if planned.plan.is_proposed else said
+        if not planned.plan.is_proposed:
+            return said
+        if not may_act(self.mgr, time.localtime(time.time())):
+            return said + ', which no round does at this time'
+        gained = planned.plan.gain()
+        if gained < SURE:
+            gained = self.gain_again(planned)
+        if gained < int(self.mgr.get_module_option('least_gain')):
+            return 'plan {} gains {:.0f} % in the heat that was read after it, and is left'.format(planned.plan.id, max(gained, 0))
+        return self.apply(planned.plan.id)
+
+    def gain_again(self, planned: Planned) -> float:
+        """Percent that a plan gains in the heat of now. Chance makes a rank hotter in a few samples, and hardly the same one twice."""
+        record, changes = self.record_of_heat(self.say), read_plan(planned.plan.text).changes
+        return percent(record, self.cluster.subtree_ranks(), after(planned.rules, changes))
 
     def is_moving(self) -> bool:
         """Whether pins of the last run may still come to hold. A plan takes a directory to be where it lies, so it could take

@@ -25,6 +25,13 @@ class Plan(NamedTuple):
         """Why nothing is proposed: the last line of the report."""
         return self.report.rstrip().rpartition('\n')[2]
 
+    def gain(self) -> float:
+        """Percent by which the hottest rank gets cooler, in the worst of the hours that were seen."""
+        alone = {key: max(it[key] for it in self.told['ranks']) for key in ('now', 'planned')}
+        hours = [it for it in self.told.get('hours', []) if it['seen']] or [dict(alone, bound=self.told['bound'])]
+        now, planned = (max(it[key] / it['bound'] for it in hours) for key in ('now', 'planned'))
+        return float(100 * (now - planned) / now)
+
 
 def program(name: str) -> str:
     for folder in FOLDERS:

@@ -1,6 +1,6 @@
 """What the module knows of a file system while it runs."""
 import time
-from typing import List, NamedTuple, Optional
+from typing import Dict, List, NamedTuple, Optional
 
 from .programs import Plan
 from .rounds import Watch
@@ -16,6 +16,7 @@ class Planned(NamedTuple):
     plan: Plan
     time: float  # in seconds since 1970
     word: str    # the ranks of then
+    rules: Dict[bytes, int]  # what decides where directories are, before its changes
 
 
 class Record:

@@ -1,5 +1,9 @@
-"""When a round of a file system that balances by itself is due."""
+"""When a round of a file system that balances by itself is due, and when it may set pins."""
+import re
+import time
 from typing import Any, Dict, Optional
+
+from .texts import Trouble
 
 LOOK = 10         # seconds between two looks at what the ranks serve
 LOOKS = 3         # so many uneven looks in a row make a round at once
@@ -22,6 +26,24 @@ def counter(mgr: Any, daemon: str, name: str) -> int:
         return int(latest('mds', daemon, name))
     except KeyError:  # it has told nothing yet
         return 0
+
+
+def is_within(begin: Any, now: Any, end: Any) -> bool:
+    """Whether it is past begin, and not past end: where that is earlier, of the next day or week. If they are the same, it always is."""
+    if begin < end:
+        return bool(begin <= now < end)
+    return bool(begin == end or now >= begin or now < end)
+
+
+def may_act(mgr: Any, now: time.struct_time) -> bool:
+    """Whether rounds may set pins at this local time. Weekdays are from 0, Sunday, as Ceph's balancer module has them."""
+    times, days = [], []
+    for name in ('begin', 'end'):
+        times.append(str(mgr.get_module_option(name + '_time')))
+        days.append(int(mgr.get_module_option(name + '_weekday')) % 7)
+        if not re.fullmatch('([01][0-9]|2[0-3])[0-5][0-9]|2400', times[-1]):
+            raise Trouble('mgr/mdbal/{}_time is no time of a day as 0730: {}'.format(name, times[-1]))
+    return is_within(times[0], time.strftime('%H%M', now), times[1]) and is_within(days[0], (now.tm_wday + 1) % 7, days[1])
 
 
 class Watch:
