@@ -27,7 +27,7 @@ class Work:
 
     def __init__(self, mgr: Any, record: Record, cluster: Cluster) -> None:
         self.mgr, self.record, self.cluster = mgr, record, cluster
-        self.limit = float(mgr.get_module_option('program_limit'))
+        self.limit = mgr.number('program_limit')
         self.recorded = time.monotonic()  # when the heat was recorded last
 
     def rest(self, seconds: float) -> None:
@@ -44,7 +44,7 @@ class Work:
 
     def rest_of_run(self, seconds: float) -> None:
         """Waits for what moves. A run may take longer than a round, and the heat is recorded meanwhile, too."""
-        if seconds and time.monotonic() >= self.recorded + float(self.mgr.get_module_option('interval')):
+        if seconds and time.monotonic() >= self.recorded + self.mgr.number('interval'):
             self.record_hour()
         self.rest(seconds)
 
@@ -54,8 +54,7 @@ class Work:
     # Plan and check
 
     def read_heat(self, collector: Collector) -> None:
-        collector.dumps(int(self.mgr.get_module_option('samples')), float(self.mgr.get_module_option('pause')),
-                        int(self.mgr.get_module_option('most_directories')))
+        collector.dumps(*(self.mgr.number(it) for it in ('samples', 'pause', 'most_directories')))
 
     def record_of_heat(self, say: Callable[[str], None]) -> bytes:
         """Reads the heat, and records it for later plans."""
@@ -93,7 +92,7 @@ class Work:
         """The options of mdbal_ceph."""
         words = []  # type: List[str]
         for name in ('least_gain', 'keep', 'most_pins', 'least_heat', 'most_inodes'):
-            value = int(self.mgr.get_module_option(name))
+            value = self.mgr.number(name)
             if value or name in ('least_gain', 'keep'):
                 words += ['--' + name.replace('_', '-'), str(value)]
         mask = str(self.mgr.get_module_option('mask') or '')
@@ -118,9 +117,9 @@ class Work:
             self.judge(folder, own, entries)
             self.say('planning')
             hours = Hours(self.mgr, self.record.number)
-            count = int(self.mgr.get_module_option('hours'))
+            count = self.mgr.number('hours')
             past = hours.write(folder, [listed(it) for it in paths]) if count > 1 else []
-            words = ['--hours', str(count), '--made', str(int(self.mgr.get_module_option('made')))] + self.options(folder)
+            words = ['--hours', str(count), '--made', str(self.mgr.number('made'))] + self.options(folder)
             plan = programs.plan(past, folder, list_of_own, words, self.limit)
             hours.keep(plan.hour, int(time.time()))
             self.recorded = time.monotonic()
@@ -149,7 +148,7 @@ class Work:
         try:
             own = self.own()
             collector = Collector(self.cluster, folder, self.rest, self.say)
-            collector.dumps(0, float(self.mgr.get_module_option('pause')), 0)
+            collector.dumps(0, self.mgr.number('pause'), 0)
             entries = collector.listing(list(own))
             collector.end()
             self.judge(folder, own, entries)
@@ -189,7 +188,7 @@ class Work:
         planned = self.record.planned
         if planned is None or planned.plan.id != plan_id:
             raise Refused('{} is not the last plan'.format(plan_id))
-        if time.time() - planned.time > float(self.mgr.get_module_option('plan_age')):
+        if time.time() - planned.time > self.mgr.number('plan_age'):
             raise Refused('the plan {} is too old: plan again'.format(plan_id))
         if self.cluster.word() != planned.word:
             raise Refused('the ranks changed since the plan {}: plan again'.format(plan_id))
@@ -203,7 +202,7 @@ class Work:
             raise Refused(why)
         self.refuse()
         trial = Trial(self.cluster, self.rest, self.say)
-        return 'once {}: {}'.format(plan_id, trial.run(text.changes, *(float(self.mgr.get_module_option(it)) for it in ('poll', 'wait'))))
+        return 'once {}: {}'.format(plan_id, trial.run(text.changes, *(self.mgr.number(it) for it in ('poll', 'wait'))))
 
     def rollback(self) -> str:
         if not self.record.text.begun:
@@ -217,7 +216,7 @@ class Work:
         record, plan_id = self.record, id_of(text)
         options = []  # type: List[str]
         for name, word in (('batch', '--batch-inodes'), ('poll', '--poll'), ('wait', '--longest-wait')):
-            options += [word, str(int(self.mgr.get_module_option(name)))]
+            options += [word, str(self.mgr.number(name))]
         run = Run(self, what, text.count('\nchange '))
         kind = Trouble  # type: Type[Trouble]
         try:
@@ -237,7 +236,7 @@ class Work:
 
     def wait_until_held(self) -> str:
         """Under load a rank takes up to a minute until it makes a pinned directory a root, which the driver's looks do not see."""
-        left = float(self.mgr.get_module_option('wait'))
+        left = self.mgr.number('wait')
         try:
             while True:
                 begun = time.monotonic()
@@ -273,7 +272,7 @@ class Work:
         gained = planned.plan.gain()
         if gained < SURE:
             gained = self.gain_again(planned)
-        if gained < int(self.mgr.get_module_option('least_gain')):
+        if gained < self.mgr.number('least_gain'):
             return 'plan {} gains {:.0f} % in the heat that was read after it, and is left'.format(planned.plan.id, max(gained, 0))
         return self.apply(planned.plan.id)
 
@@ -285,7 +284,7 @@ class Work:
     def is_moving(self) -> bool:
         """Whether pins of the last run may still come to hold. A plan takes a directory to be where it lies, so it could take
         back what is under way. After twice the time that a batch may take, what does not hold is planned for as it lies."""
-        state, longest = self.record.state, 2 * float(self.mgr.get_module_option('wait'))
+        state, longest = self.record.state, 2 * self.mgr.number('wait')
         return bool(self.record.not_held) and state.ended in ('done', SLOW) and time.time() < state.time + longest
 
 

@@ -186,6 +186,12 @@ class Module(MgrModule):
 
     # For jobs
 
+    def number(self, name: str) -> int:
+        """The value of an option that is a number."""
+        value = self.get_module_option(name)
+        assert value is not None, name
+        return int(value)
+
     def sleep(self, seconds: float) -> bool:
         """Waits; whether the manager ends this module."""
         return self.is_ending.wait(seconds)
@@ -206,7 +212,7 @@ class Module(MgrModule):
         """Whether the monitors have this value: the manager's own store says so even where they refused it."""
         result = CommandResult('')
         self.send_command(result, 'mon', '', json.dumps({'prefix': 'config-key get', 'key': 'mgr/mdbal/' + key}), '')
-        if not result.ev.wait(float(self.get_module_option('call_limit'))):
+        if not result.ev.wait(self.number('call_limit')):
             raise NoAnswer('the monitors do not answer')
         return bool(result.r == 0 and result.outb == value)
 
@@ -229,7 +235,7 @@ class Module(MgrModule):
             try:
                 self.meet()
                 self.look()
-                self.endpoint.use(int(self.get_module_option('metrics_port')))
+                self.endpoint.use(self.number('metrics_port'))
             except Exception:  # whatever it is, the thread goes on
                 self.log.exception('mdbal')
             try:
@@ -273,9 +279,9 @@ class Module(MgrModule):
                 continue
             if record.watch.is_look_due(now):
                 mds_map = file_systems(self)[name]['mdsmap']
-                record.watch.look(served(self, mds_map), now, int(self.get_module_option('uneven')) / 100)
+                record.watch.look(served(self, mds_map), now, self.number('uneven') / 100)
             if record.watch.is_round_due(now):
-                record.watch.next, record.watch.uneven = now + float(self.get_module_option('interval')), 0
+                record.watch.next, record.watch.uneven = now + self.number('interval'), 0
                 self.jobs.put(Job('round', name))
 
     def do(self, job: Job, record: Record) -> None:
@@ -303,7 +309,7 @@ class Module(MgrModule):
         has_set = record.is_well and not record.planned
         record.rounds, record.round_time = record.rounds + 1, int(time.time())
         record.round_status = (0 if has_set else 3) if record.is_well else 4 if record.state.ended not in ('', 'done') else 1
-        record.watch.after_round(time.monotonic(), float(self.get_module_option('interval')), has_set)
+        record.watch.after_round(time.monotonic(), self.number('interval'), has_set)
 
     def done(self, job: Job, record: Record) -> str:
         """Does a job, and says what it came to."""
@@ -313,12 +319,12 @@ class Module(MgrModule):
         if job.what == 'on':
             self.turn(record, True)
             record.watch.next = time.monotonic()  # the first round comes at once
-            return 'a round each {} s'.format(self.get_module_option('interval'))
+            return 'a round each {} s'.format(self.number('interval'))
         if job.what == 'round' and not record.state.on:
             return 'it was turned off'
         client = self.clients.setdefault(job.fs, None) or CephfsClient(self)
         self.clients[job.fs] = client
-        hands = Hands(client, job.fs, float(self.get_module_option('call_limit')))
+        hands = Hands(client, job.fs, self.number('call_limit'))
         try:
             work = Work(self, record, Cluster(self, job.fs, hands))
             if job.id:
@@ -338,4 +344,4 @@ class Module(MgrModule):
             raise
 
     def tell_health(self) -> None:
-        self.set_health_checks(telling.health(list(self.records.values()), int(self.get_module_option('warn_percent'))))
+        self.set_health_checks(telling.health(list(self.records.values()), self.number('warn_percent')))

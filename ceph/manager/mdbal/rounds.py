@@ -40,7 +40,7 @@ def may_act(mgr: Any, now: time.struct_time) -> bool:
     times, days = [], []
     for name in ('begin', 'end'):
         times.append(str(mgr.get_module_option(name + '_time')))
-        days.append(int(mgr.get_module_option(name + '_weekday')) % 7)
+        days.append(mgr.number(name + '_weekday') % 7)
         if not re.fullmatch('([01][0-9]|2[0-3])[0-5][0-9]|2400', times[-1]):
             raise Trouble('mgr/mdbal/{}_time is no time of a day as 0730: {}'.format(name, times[-1]))
     return is_within(times[0], time.strftime('%H%M', now), times[1]) and is_within(days[0], (now.tm_wday + 1) % 7, days[1])
