@@ -2,11 +2,14 @@
 import unittest
 from typing import Any, Dict
 
-from mdbal.cluster import Facts
-from mdbal.collect import rules_of
-from mdbal.gain import after, hottest, nearest, percent
-from mdbal.programs import Plan
-from mdbal.texts import Change
+import stand_in
+
+stand_in.install()
+from mdbal.cluster import Facts  # noqa: E402
+from mdbal.collect import rules_of  # noqa: E402
+from mdbal.gain import after, hottest, nearest, percent  # noqa: E402
+from mdbal.programs import Plan  # noqa: E402
+from mdbal.texts import Change  # noqa: E402
 
 HEAD = b"mdbal-hour 1\nlab 0-1\n5 0 7 0\n"
 

@@ -279,7 +279,7 @@ class Times(unittest.TestCase):
         for day, work, weekend in (("05", False, True), ("06", False, True), ("07", True, False), ("11", True, False)):
             self.assertIs(self.may_act(day + " 12:00", begin_weekday=1, end_weekday=6), work)
             self.assertIs(self.may_act(day + " 12:00", begin_weekday=6, end_weekday=1), weekend)
-        for begin, end, is_so in ((7, 1, True), (0, 1, True), (1, 7, False), (1, 0, False)):
+        for begin, end, is_so in ((7, 1, True), (0, 1, True), (1, 7, False), (1, 0, False), (7, 0, True)):
             self.assertIs(self.may_act("06 12:00", begin_weekday=begin, end_weekday=end), is_so)
         self.assertFalse(self.may_act("07 12:00", begin_weekday=1, end_weekday=2, begin_time="1300"))
 
