@@ -207,7 +207,7 @@ class Plans(OnSample):
                 with open(f"{room}/mdbal_ceph", "w", encoding="ascii") as it:
                     it.write(f"#!/bin/sh\n{text}\n")
                 os.chmod(f"{room}/mdbal_ceph", 0o755)
-                self.module.options["program_limit"] = 0.5
+                self.module.options["program_limit"] = 2
                 self.assertIn(why, self.do("plan"))
 
     def test_driver_that_ends_by_itself(self) -> None:
