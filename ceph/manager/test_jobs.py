@@ -308,7 +308,7 @@ class Refusals(Working):
             self.driven.reset_mock()
             again.reset_mock()
             again.return_value = second
-            left = f"plan {NAME} gains {max(second or 0, 0):.0f} % in the heat that was read after it, and is left"
+            left = f"plan {NAME} gains {max(second or 0, 0):.1f} % in the heat that was read after it, and is left"
             self.assertEqual((self.work.round(), self.driven.call_count, again.call_count), ("driven" if is_set else left, is_set, asks))
             self.assertEqual(again.call_args, unittest.mock.call(self.record().planned) if asks else None)
             self.assertIsNotNone(self.record().planned)

@@ -392,7 +392,7 @@ class Rounds(OnSample):
         warm, plan = self.cluster.loads, programs.plan
         cold = {rank: [b'{"dirfrags":[]}'] for rank in warm}
         self.do("on")
-        for later, said, status in ((cold, r"^round: plan \w+ gains 0 % in the heat that was read after it, and is left ", 3), (warm, "^round: set ", 0)):
+        for later, said, status in ((cold, r"^round: plan \w+ gains 0\.0 % in the heat that was read after it, and is left ", 3), (warm, "^round: set ", 0)):
             def planned(*words: Any, later: Any = later) -> Any:
                 found = plan(*words)
                 self.cluster.loads = later

@@ -273,7 +273,7 @@ class Work:
         if gained < SURE:
             gained = self.gain_again(planned)
         if gained < self.mgr.number('least_gain'):
-            return 'plan {} gains {:.0f} % in the heat that was read after it, and is left'.format(planned.plan.id, max(gained, 0))
+            return 'plan {} gains {:.1f} % in the heat that was read after it, and is left'.format(planned.plan.id, max(gained, 0))
         return self.apply(planned.plan.id)
 
     def gain_again(self, planned: Planned) -> float:
