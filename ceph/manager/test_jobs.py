@@ -52,10 +52,12 @@ class Waits(Working):
         self.options.update(samples=2, pause=4, most_directories=1000, program_limit=70)
         self.work = Work(self.module, self.record(), self.work.cluster)
         self.now = 900.0
+        read = self.work.read_heat
+        self.patch(self.work, "read_heat", lambda collector: self.assertEqual(sum(self.waited), 30) or read(collector))  # its own reads are cold
         self.work.record_hour()
         self.assertEqual(seen, [(["complete", "loads.0.1.json", "loads.0.2.json"], 70.0)])
         self.assertEqual(self.hours(), {f"fs.7.hour.{NOW}": HOUR})
-        self.assertEqual((os.listdir(self.room), self.said, sum(self.waited), self.work.recorded), ([], [], 4, 904.0))
+        self.assertEqual((os.listdir(self.room), self.said, sum(self.waited), self.work.recorded), ([], [], 34, 934.0))
 
     def test_record_that_fails_stops_nothing(self) -> None:
         said = []  # type: List[Any]

@@ -20,6 +20,7 @@ from .texts import Refused, Trouble, id_of, listed, own_pins, pins_list, read_pl
 PAUSE = 5  # seconds from one check to the next, until the pins hold
 UNKNOWN = 'not checked: '  # before the reason why it is not known whether pins hold
 REST = 10  # seconds in which a pin that was just set may be read as its old value
+COOL = 30  # seconds until the module's own reads of directories are no heat any more: Ceph's counters have a half-life of 5 s
 
 
 class Work:
@@ -57,9 +58,10 @@ class Work:
         collector.dumps(*(self.mgr.number(it) for it in ('samples', 'pause', 'most_directories')))
 
     def record_of_heat(self, say: Callable[[str], None]) -> bytes:
-        """Reads the heat, and records it for later plans."""
+        """Reads the heat, without that of what the module read itself, and records it for later plans."""
         folder = ''
         try:
+            self.rest(COOL)
             folder = tempfile.mkdtemp(prefix=self.mgr.room())
             collector = Collector(self.cluster, folder, self.rest, say)
             self.read_heat(collector)
