@@ -314,6 +314,9 @@ class Refusals(Working):
             self.assertEqual((self.work.round(), self.driven.call_count, again.call_count), ("driven" if is_set else left, is_set, asks))
             self.assertEqual(again.call_args, unittest.mock.call(self.record().planned) if asks else None)
             self.assertIsNotNone(self.record().planned)
+        self.options["least_gain"] = 30  # what the program proposed at a sure gain is not judged again
+        self.play_round(gain=29.999)
+        self.assertEqual(self.work.round(), "driven")
 
     def test_round_at_a_time_at_which_none_may_set_pins(self) -> None:
         again = self.patch(self.work, "gain_again", unittest.mock.Mock(return_value=50))

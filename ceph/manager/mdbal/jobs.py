@@ -271,11 +271,10 @@ class Work:
             return said
         if not may_act(self.mgr, time.localtime(time.time())):
             return said + ', which no round does at this time'
-        gained = planned.plan.gain()
-        if gained < SURE:
+        if planned.plan.gain() < SURE:
             gained = self.gain_again(planned)
-        if gained < self.mgr.number('least_gain'):
-            return 'plan {} gains {:.1f} % in the heat that was read after it, and is left'.format(planned.plan.id, max(gained, 0))
+            if gained < self.mgr.number('least_gain'):
+                return 'plan {} gains {:.1f} % in the heat that was read after it, and is left'.format(planned.plan.id, max(gained, 0))
         return self.apply(planned.plan.id)
 
     def gain_again(self, planned: Planned) -> float:
